@@ -10,14 +10,8 @@ use Rattle.p3l_cost.specs.declared.refusal.CostRefusal.TheVariants as costs
 use Rattle.p3l_cost.specs.File.{IsRead, Says}
 use Rattle.p3l_model.specs.Service.{service}
 use Rattle.p3l_alloc.specs.Chosen.{IsShort}
-<<<<<<< HEAD
 use Rattle.p3l_opts.specs.declared.word.TheConstants.{ITEMS}
 use Rattle.p3l_opts.specs.Command.{HasCount}
-use Rattle.p3l_report.specs.declared.cost_fault.CostFault.{CostFault}
-use Rattle.p3l_report.specs.declared.cost_fault.CostFault.TheVariants as fault
-=======
-use Rattle.p3l_opts.specs.Command.{HasItems}
->>>>>>> 1e8c14ebafa54bb3453a8c99382ab0d709390033
 use Rattle.p3l_run.specs.declared.end.RunEnd.{RunEnd}
 use Rattle.p3l_run.specs.declared.end.RunEnd.TheVariants as ends
 use Rattle.p3l_report.specs.declared.verdict.Refusal.TheVariants as refusal

@@ -30,11 +30,7 @@ use Rattle.p3l_program.specs.Advise.{IsAdvised}
 use Rattle.p3l_program.specs.Certificate.{IsCertificate}
 use Rattle.p3l_program.specs.Explain.{IsExplained}
 use Rattle.p3l_program.specs.File.{HasText, text_limit}
-<<<<<<< HEAD
-use Rattle.p3l_program.specs.Load.{IsCostless, IsLoaded, IsNotLoaded, IsUnchosen, cost_verdict}
-=======
-use Rattle.p3l_program.specs.Load.{IsCostless, IsLoaded, IsNotLoaded}
->>>>>>> 1e8c14ebafa54bb3453a8c99382ab0d709390033
+use Rattle.p3l_program.specs.Load.{IsCostless, IsLoaded, IsNotLoaded, IsUnchosen}
 use Rattle.p3l_program.specs.Source.{ComesToTree}
 use Rattle.p3l_program.specs.Stage.{AllPass, Stage, build_stages, cost_stages, program_stages}
 use Rattle.p3l_program.specs.World.{Change, IsCalm}

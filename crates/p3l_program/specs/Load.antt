@@ -4,11 +4,7 @@ use Rattle.p3l_io.specs.Content.{Held}
 use Rattle.p3l_skel.specs.declared.tree.Tree.{Tree}
 use Rattle.p3l_cost.specs.declared.costs.Costs.{Costs}
 use Rattle.p3l_cost.specs.Costs.{AreCostsOf}
-<<<<<<< HEAD
-use Rattle.p3l_cost.specs.File.{IsRead}
 use Rattle.p3l_alloc.specs.Chosen.{IsShort}
-=======
->>>>>>> 1e8c14ebafa54bb3453a8c99382ab0d709390033
 use Rattle.p3l_model.specs.Service.{service}
 use Rattle.p3l_skel.specs.Counts.{HasLawfulCounts}
 use Rattle.p3l_skel.specs.Numbers.{procs}

@@ -21,13 +21,8 @@ use p3l_link::laws::every_linked_net_is_carried;
 use p3l_load::Loaded;
 use p3l_opts::Build;
 use p3l_report::{Evidence, Finish, Refusal, Verdict};
-<<<<<<< HEAD
-use p3l_run::Plan;
-use p3l_run::retrace::{Retraced, retrace};
-=======
 use p3l_run::retrace::{Retraced, retrace};
 use p3l_run::{Plan, RunEnd};
->>>>>>> 1e8c14ebafa54bb3453a8c99382ab0d709390033
 use p3l_skel::Units;
 use p3l_stream::Ending;
 use p3l_trace::{Traced, read_trace};

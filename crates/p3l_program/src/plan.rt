@@ -13,11 +13,7 @@ ghost use Rattle.p3l_skel.specs.Lawful.{IsLawfulTree};
 ghost use Rattle.p3l_skel.specs.Numbers.{firings, procs};
 ghost use Rattle.p3l_skel.specs.Tree.{node_at};
 ghost use Rattle.p3l_program.specs.File.{text_limit};
-<<<<<<< HEAD
-ghost use Rattle.p3l_program.specs.Load.{AcceptsText, IsCostless, IsNotLoaded, IsReady, IsUnchosen, Loads, LoadsCosts, LoadsNetwork, LoadsProgram, cost_verdict};
-=======
-ghost use Rattle.p3l_program.specs.Load.{AcceptsText, IsCostless, IsNotLoaded, IsReady, Loads, LoadsCosts, LoadsNetwork, LoadsProgram};
->>>>>>> 1e8c14ebafa54bb3453a8c99382ab0d709390033
+ghost use Rattle.p3l_program.specs.Load.{AcceptsText, IsCostless, IsNotLoaded, IsReady, IsUnchosen, Loads, LoadsCosts, LoadsNetwork, LoadsProgram};
 ghost use Rattle.p3l_program.specs.LoadImage.{IsReadyImage};
 ghost use Rattle.p3l_program.specs.Origin.{built};
 ghost use Rattle.p3l_program.specs.Plan.{IsCompiled, IsTextRefused, network_in, network_of};
