@@ -155,14 +155,16 @@ row_at tree count k node found parts n long many =
     ap₂ (template_row node.form k) long many ∙ ap (λ (z : Node). template_row z.form k (length z.parts) (count k)) found
 
 -- parts that follow one another end in the tree, and are no more than the nodes that they have
+parts_end : (d : ℕ) (tree : Tree) → ((k next : ℕ) → IsSubtree d tree k next → next ≤ length tree.nodes) → (ps : List ℕ) (from next : ℕ) →
+    from ≤ length tree.nodes → AreSubtrees (IsSubtree d tree) ps from next → next ≤ length tree.nodes
+parts_end d tree each [] from next l are = omega (arith, are, l)
+parts_end d tree each (p ∷ ps) from next l are = parts_end d tree each ps are.1.0 next (each p are.1.0 are.1.1) are.1.2
+
 subtree_ends : (d : ℕ) (tree : Tree) (k next : ℕ) → IsSubtree d tree k next → next ≤ length tree.nodes
 unfolding IsSubtree
 subtree_ends zero tree k next h = absurd h
-subtree_ends (suc d) tree k next h = ends (node_at tree k).parts (k + 1) (omega (arith, h.0)) h.1
-  where
-    ends : (ps : List ℕ) (from : ℕ) → from ≤ length tree.nodes → AreSubtrees (IsSubtree d tree) ps from next → next ≤ length tree.nodes
-    ends [] from l are = omega (arith, are, l)
-    ends (p ∷ ps) from l are = ends ps are.1.0 (subtree_ends d tree p are.1.0 are.1.1) are.1.2
+subtree_ends (suc d) tree k next h =
+    parts_end d tree (subtree_ends d tree) (node_at tree k).parts (k + 1) next (omega (arith, h.0)) h.1
 
 parts_few : (d : ℕ) (tree : Tree) (ps : List ℕ) (from next : ℕ) → AreSubtrees (IsSubtree d tree) ps from next → from + length ps ≤ next
 parts_few d tree [] from next are = omega (arith, are)

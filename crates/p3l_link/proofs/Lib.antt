@@ -1,5 +1,5 @@
 mod Hand
-pub mod Kinds
+pub mod AnyKind
 pub mod Counted
 pub mod Placing
 pub mod Size

@@ -38,7 +38,7 @@ use Rattle.p3l_template.specs.laws.TimesLaw.{numbers_append, times_append, times
 use Rattle.p3l_link.specs.Counts.{HasOwnCount, IsCounted}
 use Rattle.p3l_link.specs.Net.{Piece, base_at, end_net, inner_pieces, linked_net, piece_of, root_base, root_piece, whole_piece, with_piece}
 use Rattle.p3l_link.specs.Node.{Serves}
-use Rattle.p3l_link.specs.Shape.{kind_at, kind_row, shape_at, template_at, template_row}
+use Rattle.p3l_link.specs.Shape.{kind_at as node_kind, kind_row, shape_at, template_at, template_row}
 use Rattle.p3l_link.specs.NodeLaw.{kind_counted, kind_typed}
 use Rattle.p3l_link.proofs.Counted.{root_counted, seat_counted, shape_lawful}
 use Rattle.p3l_link.proofs.Once.{HasOnce, HaveOnce, inner_once, whole_once}
@@ -129,12 +129,12 @@ module _ (tree : Tree) (count : ℕ → ℕ) (k : ℕ) (lawful : IsLawfulTree tr
 
   -- so each is typed
   pub shape_typed : IsTypedShape tree k (shape_at tree count k)
-  unfolding kind_at kind_row
+  unfolding node_kind kind_row
   shape_typed = kind_typed (template_at tree count k) tree k template_serves
 
   -- and has a width for each of its own channels
-  pub widths_counted : (t : ℕ) (base : Base) → length ((kind_at tree count k).widths tree k t) ≡ (shape_at tree count k).chans base
-  unfolding kind_at kind_row
+  pub widths_counted : (t : ℕ) (base : Base) → length ((node_kind tree count k).widths tree k t) ≡ (shape_at tree count k).chans base
+  unfolding node_kind kind_row
   widths_counted t base = kind_counted (template_at tree count k) tree k t base template_serves
 
 -- ROWS OF WIDTHS

@@ -16,7 +16,7 @@ use Rattle.p3l_template.specs.Width.{width_at}
 use Rattle.p3l_template.specs.declared.width.Width.{Width}
 use Rattle.p3l_link.specs.Net.{base_at, root_base}
 use Rattle.p3l_link.specs.Shape.{kind_at}
-use Rattle.p3l_link.proofs.Kinds.{tagged_at}
+use Rattle.p3l_link.proofs.AnyKind.{tagged_at}
 use Rattle.p3l_fitting.specs.Survey.{inner_survey, linked_loops, linked_survey, linked_widths, node_survey}
 use Rattle.p3l_fitting.specs.declared.survey.Survey.{Survey}
 use Rattle.p3l_orderly.specs.Saved.{HaveFewTags}

@@ -11,7 +11,7 @@ use Rattle.p3l_template.specs.Units.{Units}
 use Rattle.p3l_link.specs.Net.{Piece, base_at, inner_pieces, piece_of}
 use Rattle.p3l_link.specs.Part.{role_of, inner_parts, part_of}
 use Rattle.p3l_link.specs.Shape.{kind_at, shape_at}
-use Rattle.p3l_link.proofs.Kinds.{found_at}
+use Rattle.p3l_link.proofs.AnyKind.{found_at}
 use Rattle.p3l_orderly.specs.Walk.{all_found, all_pending, with_inner, inner_found, node_found}
 
 module _ (s : State) where

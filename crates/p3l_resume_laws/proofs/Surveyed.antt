@@ -10,7 +10,7 @@ use Rattle.p3l_template.specs.declared.width.Width.{Width}
 use Rattle.p3l_loop.specs.LoopKind.{loop_widths}
 use Rattle.p3l_link.specs.Net.{base_at}
 use Rattle.p3l_link.specs.Shape.{kind_at}
-use Rattle.p3l_link.proofs.Kinds.{tagged_at}
+use Rattle.p3l_link.proofs.AnyKind.{tagged_at}
 use Rattle.p3l_fitting.specs.Survey.{inner_survey, node_survey}
 use Rattle.p3l_fitting.specs.declared.survey.Survey.{Survey}
 use Rattle.p3l_resume_laws.proofs.Lists.{all_append, all_so}

@@ -5,7 +5,7 @@ use Rattle.p3l_link.specs.Node.{IsFit, Serves}
 use Rattle.p3l_link.specs.Shape.{template_at, template_row}
 use Rattle.p3l_link.specs.declared.node.NodeTemplate.{NodeTemplate}
 use Rattle.p3l_link.proofs.Counted.{few_parts, row_at, template_fit}
-use Rattle.p3l_link.proofs.Kinds.{kind_is}
+use Rattle.p3l_link.proofs.AnyKind.{kind_is}
 use Rattle.p3l_link.proofs.Typing.{template_serves}
 use Rattle.p3l_link.proofs.table.template_of.Goals as goal
 
