@@ -189,40 +189,41 @@ module _ (tree : Tree) (count : ℕ → ℕ) (d k t : ℕ) (at : Ports) (before 
     pub surveyed_first : (s : Survey) → s ≡ begun → IsSurveyed s 0
     surveyed_first s e = ap (λ (z : Survey). followed z (inner_survey inside seats z.procs (length z.widths))) e
 
-    module _ (items : List Seat) (items_are : items ≡ seats) (s : Survey) (i : ℕ) (left : IsSurveyed s i) (l : i < length items)
-        (none : Seat) where
-      abbrev item : Seat
-      item = get_or items i none
-
+    module _ (items : List Seat) (items_are : items ≡ seats) (s : Survey) (i : ℕ) (left : IsSurveyed s i) (l : i < length items) (x y : Seat)
+        (same : x ≡ y) (found : y ≡ get_or items i y) (part : ℕ) (part_is : part ≡ part_at tree k x.part) where
       below : i < length seats
       below = let e = ap length items_are in omega (arith, l, e)
 
-      item_is : item ≡ get_or seats i no_seat
-      item_is = ap (λ xs. get_or xs i none) items_are ∙ get_or_default seats i none no_seat below
+      seat_is : x ≡ get_or seats i no_seat
+      seat_is = same ∙ found ∙ ap (λ xs. get_or xs i y) items_are ∙ get_or_default seats i y no_seat below
 
-      pub item_counted : IsCounted tree count (d - 1) (part_at tree k item.part)
-      item_counted =
+      part_there : part ≡ part_at tree k (get_or seats i no_seat).part
+      part_there = part_is ∙ ap (λ (z : Seat). part_at tree k z.part) seat_is
+
+      pub part_counted : IsCounted tree count (d - 1) part
+      part_counted =
           let more = some in
           let e : d ≡ suc (d - 1) = omega (arith, more) in
-          subst (λ (x : Seat). IsCounted tree count (d - 1) (part_at tree k x.part)) (sym item_is)
+          subst (IsCounted tree count (d - 1)) (sym part_there)
           (seat_counted tree count k lawful there base i below (d - 1) (subst (λ n. IsCounted tree count n k) e counted))
 
-      module _ (u : ℕ) (u_is : u ≡ kind.deeper) where
-        abbrev found : Survey
-        found = node_survey tree count (d - 1) (part_at tree k item.part) (t + u) (base_after (ports_of item) s)
+      module _ (u : ℕ) (u_is : u ≡ t + kind.deeper) where
+        abbrev surveyed : Survey
+        surveyed = node_survey tree count (d - 1) part u (base_after (ports_of x) s)
 
-        found_is : found ≡ inside (get_or seats i no_seat).part (base_at (get_or seats i no_seat) s.procs (length s.widths))
-        found_is =
-            ap (λ m. node_survey tree count (d - 1) (part_at tree k item.part) (t + m) (base_after (ports_of item) s)) u_is
-            ∙ ap (λ (x : Seat). node_survey tree count (d - 1) (part_at tree k x.part) (t + kind.deeper) (base_after (ports_of x) s)) item_is
+        surveyed_is : surveyed ≡ inside (get_or seats i no_seat).part (base_at (get_or seats i no_seat) s.procs (length s.widths))
+        surveyed_is =
+            ap₂ (λ m n. node_survey tree count (d - 1) m n (base_after (ports_of x) s)) part_there u_is
+            ∙ ap (λ (z : Seat). node_survey tree count (d - 1) (part_at tree k (get_or seats i no_seat).part) (t + kind.deeper) (base_after (ports_of z) s))
+            seat_is
 
-        pub item_room : HasRoomAfter before node.procs (length node.widths) → HasRoomAfter s found.procs (length found.widths)
-        item_room room =
+        pub part_room : HasRoomAfter before node.procs (length node.widths) → HasRoomAfter s surveyed.procs (length surveyed.widths)
+        part_room room =
             let next = next_room inside seats s filled i left below in
             let p = filled_procs in
             let w = filled_widths in
-            subst (λ (z : Survey). HasRoomAfter s z.procs (length z.widths)) (sym found_is)
+            subst (λ (z : Survey). HasRoomAfter s z.procs (length z.widths)) (sym surveyed_is)
             (omega (arith, next.0, p, room.0), omega (arith, next.1, w, room.1))
 
-        pub surveyed_next : (s' : Survey) → s' ≡ followed s found → IsSurveyed s' (i + 1)
-        surveyed_next s' e = next_surveyed inside seats s filled i left below s' (e ∙ ap (followed s) found_is)
+        pub surveyed_next : (s' : Survey) → s' ≡ followed s surveyed → IsSurveyed s' (i + 1)
+        surveyed_next s' e = next_surveyed inside seats s filled i left below s' (e ∙ ap (followed s) surveyed_is)

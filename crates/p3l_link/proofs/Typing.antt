@@ -7,8 +7,6 @@ use Rattle.std.specs.List.{AllByRecursion}
 use Rattle.std.specs.Option.{option_map}
 use Rattle.std.proofs.lemmas.Bool.{cases_lt}
 use Rattle.std.proofs.lemmas.Bool.Decides.{nat_tests}
-use Rattle.std.proofs.lemmas.Grind.{flat_map-append}
-use Rattle.std.proofs.lemmas.List.{get_or-append-add, get_or_append_left}
 use Rattle.p3l_skel.specs.declared.tree.Form.{Form}
 use Rattle.p3l_skel.specs.declared.tree.Form.TheVariants.{Seq, Comp, Pipe, Farm, Map, Reduce, Loop}
 use Rattle.p3l_skel.specs.declared.tree.Tree.{Tree}
@@ -24,17 +22,16 @@ use Rattle.p3l_firing.specs.declared.process.ProcKind.{ProcKind}
 use Rattle.p3l_firing.specs.declared.process.ProcKind.TheVariants.{Source, Sink}
 use Rattle.p3l_firing.specs.Process.{all_ins, all_outs, kind_at, times}
 use Rattle.p3l_firing.specs.Single.{the_source, the_sink}
-use Rattle.p3l_firing.specs.State.{no_chan}
 use Rattle.p3l_firing.specs.Token.{most_tags}
 use Rattle.p3l_firing.specs.Typed.{FitsChannel, FitsKind, IsTyped}
 use Rattle.p3l_firing.specs.Widths.{Widths, Carries}
 use Rattle.p3l_firing.specs.kinds.Run.{Takes}
 use Rattle.p3l_template.specs.Placed.{IsLawfulShape}
 use Rattle.p3l_template.specs.Shape.{Base, Seat, Shape, no_seat, numbers_from}
-use Rattle.p3l_template.specs.Typing.{Carry, IsInner, IsTypedShape, SeatFits, StandsTyped, seat_ins, seat_outs}
+use Rattle.p3l_template.specs.Typing.{Carry, IsInner, IsTypedShape, SeatFits, StandsTyped}
 use Rattle.p3l_template.specs.Width.{no_width}
 use Rattle.p3l_template.specs.declared.width.Width.{Width}
-use Rattle.p3l_template.specs.laws.TimesLaw.{numbers_append, times_append, times_cons}
+use Rattle.p3l_template.specs.laws.TimesLaw.{times_cons}
 use Rattle.p3l_link.specs.Counts.{HasOwnCount, IsCounted}
 use Rattle.p3l_link.specs.Net.{Piece, base_at, end_net, inner_pieces, linked_net, piece_of, root_base, root_piece, whole_piece, with_piece}
 use Rattle.p3l_link.specs.Node.{Serves}

@@ -1,5 +1,5 @@
 -- The walk over the seats of a node that can be placed, by the lemmas of Placing.
-use Rattle.std.proofs.Common.{◌≡◌, ℕ, suc, ◌+◌, ◌-◌, ◌<◌, ◌≤◌, List, length, get_or, drop, sym, ap, ◌∙◌, subst, arith, length-append}
+use Rattle.std.proofs.Common.{◌≡◌, ℕ, suc, ◌+◌, ◌-◌, ◌<◌, ◌≤◌, List, length, get_or, drop, sym, ap, ap₂, ◌∙◌, subst, arith, length-append}
 use Rattle.std.proofs.lemmas.List.{get_or_default}
 use Rattle.p3l_skel.specs.declared.tree.Tree.{Tree}
 use Rattle.p3l_skel.specs.Lawful.{IsLawfulTree}
@@ -69,30 +69,34 @@ module _ (tree : Tree) (count : ℕ → ℕ) (cap levels k : ℕ) (lawful : IsLa
     pub ended : length items ≤ i → b ≡ with_piece b0 whole
     ended l = end_built parts seats b (with_piece b0 whole) i built (omega (arith, l, seats_length))
 
-    module _ (l : i < length items) (none : Seat) where
-      abbrev item : Seat
-      item = get_or items i none
+    -- the part that was found at the next seat
+    module _ (l : i < length items) (x y : Seat) (same : x ≡ y) (found : y ≡ get_or items i y) (part : ℕ)
+        (part_is : part ≡ part_at tree k x.part) where
+      abbrev seat : Seat
+      seat = get_or seats i no_seat
 
       below : i < length seats
       below = omega (arith, l, seats_length)
 
-      item_is : item ≡ get_or seats i no_seat
-      item_is = ap (λ xs. get_or xs i none) items_are ∙ get_or_default seats i none no_seat below
+      seat_is : x ≡ seat
+      seat_is = same ∙ found ∙ ap (λ xs. get_or xs i y) items_are ∙ get_or_default seats i y no_seat below
 
-      pub part_counted : IsCounted tree count (levels - 1) (part_at tree k item.part)
+      part_there : part ≡ part_at tree k seat.part
+      part_there = part_is ∙ ap (λ (z : Seat). part_at tree k z.part) seat_is
+
+      pub part_counted : IsCounted tree count (levels - 1) part
       part_counted =
           let some = counted_deep tree count levels k counted in
           let e : levels ≡ suc (levels - 1) = omega (arith, some) in
-          subst (λ (x : Seat). IsCounted tree count (levels - 1) (part_at tree k x.part)) (sym item_is)
+          subst (IsCounted tree count (levels - 1)) (sym part_there)
           (seat_counted tree count k lawful there (base_of at b0) i below (levels - 1)
           (subst (λ d. IsCounted tree count d k) e counted))
 
       abbrev here : Piece
-      here = piece_of tree count cap (levels - 1) (part_at tree k item.part) (base_of (ports_of item) b)
+      here = piece_of tree count cap (levels - 1) part (base_of (ports_of x) b)
 
-      here_is : here ≡ parts (get_or seats i no_seat).part (base_at (get_or seats i no_seat) (length b.procs) (length b.chans))
-      here_is =
-          ap (λ (x : Seat). piece_of tree count cap (levels - 1) (part_at tree k x.part) (base_of (ports_of x) b)) item_is
+      here_is : here ≡ parts seat.part (base_at seat (length b.procs) (length b.chans))
+      here_is = ap₂ (λ n (z : Seat). piece_of tree count cap (levels - 1) n (base_of (ports_of z) b)) part_there seat_is
 
       -- there is room for the part
       pub part_room : HasRoom b0 whole → HasRoom b here

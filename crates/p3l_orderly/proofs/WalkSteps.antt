@@ -1,5 +1,5 @@
 -- The steps of the walk over a tree in code: what was found so far, with what is found at the seats that are left, is all.
-use Rattle.std.proofs.Common.{◌≡◌, ℕ, zero, suc, ◌+◌, ◌-◌, ◌<◌, ◌≤◌, ◌&&◌, Bool, true, false, Option, Some, None, cond, List, [], ◌∷◌, ◌++◌, length, get_or, map, drop, drop-cons, refl, sym, ap, ap₂, ◌∙◌, subst, arith, append_assoc, append-nil, length-append}
+use Rattle.std.proofs.Common.{◌≡◌, ℕ, zero, suc, ◌+◌, ◌-◌, ◌<◌, ◌≤◌, ◌&&◌, Bool, true, false, Option, Some, None, cond, List, [], ◌∷◌, ◌++◌, length, get_or, map, drop, drop-cons, refl, sym, ap, ap₂, ◌∙◌, subst, subst₂, arith, append_assoc, append-nil, length-append}
 use Rattle.std.proofs.lemmas.Bool.{cond-false}
 use Rattle.std.proofs.lemmas.List.{drop_all, get_or_default, length-map}
 use Rattle.p3l_skel.specs.declared.tree.Tree.{Tree}
@@ -298,59 +298,61 @@ module _ (tree : Tree) (count : ℕ → ℕ) (levels k : ℕ) (base : Base) (s :
         }) (walk_piece tree count levels k base) base) (sym all.orderly)
         ∙ ap (λ z. found_at z (walk_piece tree count levels k base) base) (sym node_step)
 
-    -- the part at a seat
     module _ (items : List Seat) (items_are : items ≡ seats) (i : ℕ) where
-      pub seats_length : length items ≡ length seats
+      seats_length : length items ≡ length seats
       seats_length = ap length items_are
-
-      module _ (l : i < length items) where
-        below : i < length seats
-        below = let e = seats_length in omega (arith, l, e)
-
-        module _ (none : Seat) where
-          abbrev item : Seat
-          item = get_or items i none
-
-          item_is : item ≡ get_or seats i no_seat
-          item_is = ap (λ xs. get_or xs i none) items_are ∙ get_or_default seats i none no_seat below
-
-          pub item_counted : IsCounted tree count (levels - 1) (part_at tree k item.part)
-          item_counted =
-              let some = counted_deep tree count levels k counted in
-              let e : levels ≡ suc (levels - 1) = omega (arith, some) in
-              subst (λ (x : Seat). IsCounted tree count (levels - 1) (part_at tree k x.part)) (sym item_is)
-              (seat_counted tree count k lawful (counted_there tree count levels k counted) base i below (levels - 1)
-              (subst (λ d. IsCounted tree count d k) e counted))
-
-          module _ (p c : ℕ) where
-            pub item_room : (inner : List (List Token)) → IsLeft i p c inner → HasRoomAt (walk_piece tree count levels k base) base →
-                HasRoomAt (walk_piece tree count (levels - 1) (part_at tree k item.part) (base_at item p c)) (base_at item p c)
-            item_room inner left room =
-                subst (λ (x : Seat). HasRoomAt (walk_piece tree count (levels - 1) (part_at tree k x.part) (base_at x p c)) (base_at x p c))
-                (sym item_is) (left_room i p c inner left below (whole_room room))
-
-            pub item_found : found_at (walk_found tree count (levels - 1) (part_at tree k item.part) (base_at item p c) s)
-                (walk_piece tree count (levels - 1) (part_at tree k item.part) (base_at item p c)) (base_at item p c)
-                ≡ found_at (founds (get_or seats i no_seat).part (base_at (get_or seats i no_seat) p c))
-                (pieces (get_or seats i no_seat).part (base_at (get_or seats i no_seat) p c)) (base_at (get_or seats i no_seat) p c)
-            item_found =
-                ap (λ (x : Seat). found_at (walk_found tree count (levels - 1) (part_at tree k x.part) (base_at x p c) s)
-                (walk_piece tree count (levels - 1) (part_at tree k x.part) (base_at x p c)) (base_at x p c)) item_is
-
-            -- the next step of the walk
-            pub item_on : (inner : List (List Token)) → IsLeft i p c inner → (x : Found) (p' c' : ℕ) (inner' : List (List Token)) →
-                Some x ≡ found_at (walk_found tree count (levels - 1) (part_at tree k item.part) (base_at item p c) s)
-                (walk_piece tree count (levels - 1) (part_at tree k item.part) (base_at item p c)) (base_at item p c) →
-                p' ≡ x.proc → c' ≡ x.chan → inner' ≡ inner ++ x.pending ∷ [] → IsLeft (i + 1) p' c' inner'
-            item_on inner left x p' c' inner' e = left_on i p c inner left below x p' c' inner' (e ∙ item_found)
-
-            pub item_none : (inner : List (List Token)) → IsLeft i p c inner →
-                None ≡ found_at (walk_found tree count (levels - 1) (part_at tree k item.part) (base_at item p c) s)
-                (walk_piece tree count (levels - 1) (part_at tree k item.part) (base_at item p c)) (base_at item p c) →
-                None ≡ found_at (walk_found tree count levels k base s) (walk_piece tree count levels k base) base
-            item_none inner left e =
-                nothing_found (left_none i p c inner left below (found_none (founds (get_or seats i no_seat).part
-                (base_at (get_or seats i no_seat) p c)) _ _ (e ∙ item_found)))
 
       pub items_end : (p c : ℕ) (inner : List (List Token)) → IsLeft i p c inner → length items ≤ i → IsAll p c inner
       items_end p c inner left l = left_all i p c inner left (let e = seats_length in omega (arith, l, e))
+
+      -- the part that was found at the next seat
+      module _ (l : i < length items) (x y : Seat) (same : x ≡ y) (at_i : y ≡ get_or items i y) (part : ℕ)
+          (part_is : part ≡ part_at tree k x.part) where
+        below : i < length seats
+        below = let e = seats_length in omega (arith, l, e)
+
+        seat_is : x ≡ get_or seats i no_seat
+        seat_is = same ∙ at_i ∙ ap (λ xs. get_or xs i y) items_are ∙ get_or_default seats i y no_seat below
+
+        part_there : part ≡ part_at tree k (get_or seats i no_seat).part
+        part_there = part_is ∙ ap (λ (z : Seat). part_at tree k z.part) seat_is
+
+        pub part_counted : IsCounted tree count (levels - 1) part
+        part_counted =
+            let some = counted_deep tree count levels k counted in
+            let e : levels ≡ suc (levels - 1) = omega (arith, some) in
+            subst (IsCounted tree count (levels - 1)) (sym part_there)
+            (seat_counted tree count k lawful (counted_there tree count levels k counted) base i below (levels - 1)
+            (subst (λ d. IsCounted tree count d k) e counted))
+
+        module _ (p c : ℕ) (b : Base) (place : b ≡ base_at x p c) where
+          abbrev here : Piece
+          here = walk_piece tree count (levels - 1) part b
+
+          abbrev there_found : Option Found
+          there_found = found_at (walk_found tree count (levels - 1) part b s) here b
+
+          base_is : b ≡ base_at (get_or seats i no_seat) p c
+          base_is = place ∙ ap (λ (z : Seat). base_at z p c) seat_is
+
+          pub part_room : (inner : List (List Token)) → IsLeft i p c inner → HasRoomAt (walk_piece tree count levels k base) base → HasRoomAt here b
+          part_room inner left room =
+              subst₂ (λ n (z : Base). HasRoomAt (walk_piece tree count (levels - 1) n z) z) (sym part_there) (sym base_is)
+              (left_room i p c inner left below (whole_room room))
+
+          found_is : there_found
+              ≡ found_at (founds (get_or seats i no_seat).part (base_at (get_or seats i no_seat) p c))
+              (pieces (get_or seats i no_seat).part (base_at (get_or seats i no_seat) p c)) (base_at (get_or seats i no_seat) p c)
+          found_is =
+              ap₂ (λ n (z : Base). found_at (walk_found tree count (levels - 1) n z s) (walk_piece tree count (levels - 1) n z) z) part_there base_is
+
+          -- the next step of the walk
+          pub part_on : (inner : List (List Token)) → IsLeft i p c inner → (f : Found) (p' c' : ℕ) (inner' : List (List Token)) →
+              Some f ≡ there_found → p' ≡ f.proc → c' ≡ f.chan → inner' ≡ inner ++ f.pending ∷ [] → IsLeft (i + 1) p' c' inner'
+          part_on inner left f p' c' inner' e = left_on i p c inner left below f p' c' inner' (e ∙ found_is)
+
+          pub part_none : (inner : List (List Token)) → IsLeft i p c inner → None ≡ there_found →
+              None ≡ found_at (walk_found tree count levels k base s) (walk_piece tree count levels k base) base
+          part_none inner left e =
+              nothing_found (left_none i p c inner left below (found_none (founds (get_or seats i no_seat).part
+              (base_at (get_or seats i no_seat) p c)) _ _ (e ∙ found_is)))

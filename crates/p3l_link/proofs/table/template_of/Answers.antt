@@ -1,8 +1,7 @@
-use Rattle.std.proofs.Common.{◌≡◌, length, sym, ap, ap₂, ◌∙◌, subst, arith}
+use Rattle.std.proofs.Common.{length, sym, ap, ◌∙◌, subst, arith}
 use Rattle.p3l_skel.specs.declared.tree.Node.{Node}
 use Rattle.p3l_skel.specs.Counts.{count_of}
 use Rattle.p3l_link.specs.Node.{IsFit, Serves}
-use Rattle.p3l_link.specs.Shape.{template_at, template_row}
 use Rattle.p3l_link.specs.declared.node.NodeTemplate.{NodeTemplate}
 use Rattle.p3l_link.proofs.Counted.{few_parts, row_at, template_fit}
 use Rattle.p3l_link.proofs.AnyKind.{kind_is}
