@@ -23,7 +23,8 @@ pub fn item_outcome<U: Units>(
     requires served { U.tree units.now ≡ tree.now }
     requires there { node < length tree.now.nodes }
     requires fits { HasFittingLength tree.now node (length words.now) }
-    ensures { IfGivenOr result (λ outcome. outcome ≡ item tree.now (U.leaf units.now) node words.now) (U.may_want ≡ true) }
+    ensures { IfGivenOr result (λ outcome. outcome
+        ≡ item tree.now (U.leaf units.now) node words.now) (U.may_want ≡ true) }
 {
     let leaves = UnitLeaves { units };
     p3l_walk::item_outcome(alloc, tree, &leaves, &mut (), node, words)

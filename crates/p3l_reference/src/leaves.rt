@@ -6,6 +6,7 @@ use p3l_walk::Leaves;
 use std::alloc::Global;
 
 /// Units that are asked for `seq` nodes alone.
+#[derive(Drop)]
 pub struct UnitLeaves<'u, U> {
     pub units: &'u U,
 }

@@ -21,7 +21,7 @@ returns-clause-item c =
     let found : node ≡ node_at served.tree c.args.node = c.in-Some.ensures.found ∙ ap (λ (tr : Tree). node_at tr c.args.node) c.tree-tree.ensures in
     let form : node.form ≡ Seq = ap (λ (n : Node). n.form) found ∙ c.requires.form in
     given-alone _ c.rescue.result _ _
-    (ap (λ (tr : Tree). rescued (rescue_of tr node.module) node.outs c.in_ok-outcome.outcome) c.tree-tree.ensures
+    (ap (λ (tr : Tree). rescued (rescue_of tr node.module) node.outs c.in_ok-outcome.field-0.outcome) c.tree-tree.ensures
     ∙ (ap (rescued (rescue_of served.tree node.module) node.outs) (c.in_ok-outcome.ensures.outcome ∙ ap (λ (n : Node). leaf served n.module words) (sym found))
     ∙ row_at served.tree c.requires.lawful (leaf served) node c.args.node Seq words found c.requires.there form))
     c.rescue.ensures

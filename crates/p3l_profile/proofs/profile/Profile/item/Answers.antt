@@ -1,6 +1,9 @@
-use Rattle.std.proofs.Common.{◌≡◌, length, sym, subst}
+use Rattle.std.proofs.Common.{◌≡◌, length, ap, sym, subst}
 use Rattle.p3l_skel.proofs.Depth.{IsSubtree-grows}
+use Rattle.p3l_skel.specs.Item.{item}
 use Rattle.p3l_skel.specs.Tree.{nesting}
+use Rattle.p3l_units.specs.Table.{Served, leaf}
+use Rattle.p3l_units.proofs.Given.{given-same}
 use Rattle.p3l_profile.specs.Greatest.{IsProfileOf}
 use Rattle.p3l_walk.proofs.Given.{given-surely}
 use Rattle.p3l_walk.proofs.Noting.{on_ok-along}
@@ -19,4 +22,7 @@ returns-clause-of c =
     c.item_outcome.ensures.noted
 
 pub returns-clause-item : goal.returns-clause-item
-returns-clause-item c = given-surely c.item_outcome.result _ c.item_outcome.ensures.item
+returns-clause-item c =
+    given-same c.item_outcome.result _ _
+    (ap (λ (served : Served). item c.args.tree.now (leaf served) 0 c.args.words.now) c.new-bodies.ensures)
+    (given-surely c.item_outcome.result _ c.item_outcome.ensures.item)
