@@ -1,5 +1,5 @@
 -- As many processes and channels are surveyed as the linker places.
-use Rattle.std.proofs.Common.{◌≡◌, ℕ, zero, suc, ◌+◌, ◌<◌, ◌≤◌, List, [], ◌∷◌, length, get_or, refl, ap, sym, ◌∙◌, subst, subst₂, arith, length-append}
+use Rattle.std.proofs.Common.{◌≡◌, ℕ, zero, suc, ◌+◌, ◌<◌, ◌≤◌, List, [], ◌∷◌, length, get_or, refl, sym, subst, subst₂, arith, length-append}
 use Rattle.p3l_skel.specs.declared.tree.Tree.{Tree}
 use Rattle.p3l_skel.specs.Counts.{HasLawfulCounts, count_of}
 use Rattle.p3l_skel.specs.Lawful.{IsLawfulTree}
@@ -9,12 +9,12 @@ use Rattle.p3l_template.specs.Kind.{Kind}
 use Rattle.p3l_template.specs.Shape.{Base, Seat, no_seat}
 use Rattle.p3l_template.specs.declared.width.Width.{Width}
 use Rattle.p3l_link.specs.Counts.{IsCounted}
-use Rattle.p3l_link.specs.Net.{Piece, base_at, inner_pieces, piece_of, root_base, root_piece, whole_piece}
-use Rattle.p3l_link.specs.Shape.{kind_at, shape_at}
+use Rattle.p3l_link.specs.Net.{Piece, base_at, inner_pieces, piece_of, root_base, root_piece}
+use Rattle.p3l_link.specs.Shape.{kind_at}
 use Rattle.p3l_link.proofs.Counted.{root_counted, seat_counted, shape_lawful}
 use Rattle.p3l_link.proofs.Size.{root_sized}
 use Rattle.p3l_link.proofs.Typing.{widths_counted}
-use Rattle.p3l_fitting.specs.Survey.{HasRoomAfter, inner_survey, linked_survey, node_survey}
+use Rattle.p3l_fitting.specs.Survey.{HasRoomAfter, base_after, end_survey, inner_survey, node_survey}
 use Rattle.p3l_fitting.specs.declared.survey.Survey.{Survey}
 
 -- a piece has as many processes and channels as are surveyed
@@ -76,13 +76,15 @@ module _ (tree : Tree) (count : ℕ → ℕ) (cap : ℕ) (lawful : IsLawfulTree 
 
 -- there is room for a whole net
 pub root_room : (tree : Tree) (counts : List ℕ) → IsLawfulTree tree → HasLawfulCounts tree counts → procs tree counts 0 ≤ 4096 → (s : Survey) →
-    s.procs ≡ 2 → length s.widths ≡ 2 →
-    HasRoomAfter s (node_survey tree (count_of tree counts) nesting 0 0 root_base).procs
-    (length (node_survey tree (count_of tree counts) nesting 0 0 root_base).widths)
+    s ≡ end_survey tree →
+    HasRoomAfter s (node_survey tree (count_of tree counts) nesting 0 0 (base_after (record { input = 0; output = 1 }) s)).procs
+    (length (node_survey tree (count_of tree counts) nesting 0 0 (base_after (record { input = 0; output = 1 }) s)).widths)
 unfolding root_piece
-root_room tree counts lawful counted few s p c =
+root_room tree counts lawful counted few s e =
     let placed = root_sized tree counts 1 lawful counted in
-    let same = node_sized tree (count_of tree counts) 1 lawful nesting 0 0 root_base (root_counted tree counts lawful counted) in (
-      omega (arith, few, p, placed.procs, same.procs),
-      omega (arith, few, c, placed.chans, same.chans),
+    let same = node_sized tree (count_of tree counts) 1 lawful nesting 0 0 root_base (root_counted tree counts lawful counted) in
+    subst (λ (z : Survey). HasRoomAfter z (node_survey tree (count_of tree counts) nesting 0 0 (base_after (record { input = 0; output = 1 }) z)).procs
+    (length (node_survey tree (count_of tree counts) nesting 0 0 (base_after (record { input = 0; output = 1 }) z)).widths)) (sym e) (
+      omega (arith, few, placed.procs, same.procs),
+      omega (arith, few, placed.chans, same.chans),
     )

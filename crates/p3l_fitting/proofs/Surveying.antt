@@ -1,7 +1,7 @@
 -- The walk over the inner parts of a node: what is surveyed, followed by what is left, is the whole. It begins so (`surveyed_first`), each
 -- part keeps it (`surveyed_next`), and with none left the whole is surveyed (`surveyed_last`). There is room for each part where there is
 -- for the node (`surveyed_room`).
-use Rattle.std.proofs.Common.{◌≡◌, ℕ, zero, suc, ◌+◌, ◌-◌, ◌<◌, ◌≤◌, Bool, List, [], ◌∷◌, ◌++◌, length, get_or, drop, drop-cons, refl, sym, ap, ap₂, ◌∙◌, subst, arith, append_assoc, append-nil, length-append}
+use Rattle.std.proofs.Common.{◌≡◌, ℕ, zero, suc, ◌+◌, ◌-◌, ◌<◌, ◌≤◌, Bool, List, ◌∷◌, ◌++◌, length, get_or, drop, drop-cons, sym, ap, ap₂, ◌∙◌, subst, arith, append_assoc, append-nil, length-append}
 use Rattle.std.proofs.lemmas.List.{drop_all, get_or_default}
 use Rattle.p3l_skel.specs.declared.tree.Tree.{Tree}
 use Rattle.p3l_skel.specs.Lawful.{IsLawfulTree}
@@ -22,6 +22,12 @@ use Rattle.p3l_fitting.specs.declared.survey.Survey.{Survey}
 three : (p q : ℕ) (v w : List Width) (l m : List LoopPlace) → p ≡ q → v ≡ w → l ≡ m →
     ◌≡◌ {A = Survey} (record { procs = p; widths = v; loops = l }) (record { procs = q; widths = w; loops = m })
 three p q v w l m a b c = cc
+
+abbrev with_own : Survey → ℕ → List Width → Survey
+with_own a procs widths = record { procs = procs; widths = widths; loops = a.loops }
+
+abbrev with_loops : Survey → List LoopPlace → Survey
+with_loops a loops = record { procs = a.procs; widths = a.widths; loops = loops }
 
 followed_followed : (a b c : Survey) → followed (followed a b) c ≡ followed a (followed b c)
 followed_followed a b c =
@@ -165,16 +171,18 @@ module _ (tree : Tree) (count : ℕ → ℕ) (d k t : ℕ) (at : Ports) (before 
         omega (arith, e, w, length-append (before.widths ++ row) inner.widths, length-append before.widths row)
 
     -- the node's own loop, and the whole is surveyed
-    pub closed : (s : Survey) (i : ℕ) → IsSurveyed s i → length seats ≤ i → (is : Bool) → is ≡ kind.is_loop → (s' : Survey) →
-        s' ≡ record s { loops = s.loops ++ own_loops is base.proc base.chan s.procs (length s.widths) } → s' ≡ followed before node
-    closed s i left none is loops_is s' last =
+    pub closed : (items : List Seat) → items ≡ seats → (s : Survey) (i : ℕ) → IsSurveyed s i → length items ≤ i → (is : Bool) → is ≡ kind.is_loop →
+        (b : Base) → b ≡ base → (s' : Survey) →
+        s' ≡ record s { loops = s.loops ++ own_loops is b.proc b.chan s.procs (length s.widths) } → s' ≡ followed before node
+    closed items items_are s i left past is loops_is b same s' last =
+        let none : length seats ≤ i = omega (arith, past, ap length items_are) in
         let e = all_surveyed inside seats s filled i left none ∙ filled_is in
         let ps : s.procs ≡ (before.procs + length (kind.shape.procs base)) + inner.procs = ap (λ (z : Survey). z.procs) e in
         let ws : s.widths ≡ (before.widths ++ row) ++ inner.widths = ap (λ (z : Survey). z.widths) e in
         let ls : s.loops ≡ before.loops ++ inner.loops = ap (λ (z : Survey). z.loops) e in
         let many : length s.widths ≡ length before.widths + length row + length inner.widths =
         omega (arith, ap length ws, length-append (before.widths ++ row) inner.widths, length-append before.widths row) in
-        last
+        last ∙ ap (λ (x : Base). with_loops s (s.loops ++ own_loops is x.proc x.chan s.procs (length s.widths))) same
         ∙ three s.procs (before.procs + (length (kind.shape.procs base) + inner.procs)) s.widths (before.widths ++ (row ++ inner.widths)) _
         (before.loops
         ++ (inner.loops
@@ -186,8 +194,12 @@ module _ (tree : Tree) (count : ℕ → ℕ) (d k t : ℕ) (at : Ports) (before 
         ∙ append_assoc before.loops inner.loops _)
         ∙ ap (followed before) (sym node_is)
 
-    pub surveyed_first : (s : Survey) → s ≡ begun → IsSurveyed s 0
-    surveyed_first s e = ap (λ (z : Survey). followed z (inner_survey inside seats z.procs (length z.widths))) e
+    -- the node's own processes and channels, by a template of its kind at its place
+    pub surveyed_first : (one : Kind) → one ≡ kind → (b : Base) → b ≡ base → (s : Survey) →
+        s ≡ record before { procs = before.procs + length (one.shape.procs b); widths = before.widths ++ one.widths tree k t } → IsSurveyed s 0
+    surveyed_first one is b same s e =
+        ap (λ (z : Survey). followed z (inner_survey inside seats z.procs (length z.widths)))
+        (e ∙ ap₂ (λ (z : Kind) (x : Base). with_own before (before.procs + length (z.shape.procs x)) (before.widths ++ z.widths tree k t)) is same)
 
     module _ (items : List Seat) (items_are : items ≡ seats) (s : Survey) (i : ℕ) (left : IsSurveyed s i) (l : i < length items) (x y : Seat)
         (same : x ≡ y) (found : y ≡ get_or items i y) (part : ℕ) (part_is : part ≡ part_at tree k x.part) where

@@ -6,7 +6,6 @@ ghost use Rattle.p3l_base.specs.Memory.{IfGiven, OnGiven};
 ghost use Rattle.p3l_skel.specs.Counts.{HasLawfulCounts, count_of};
 ghost use Rattle.p3l_skel.specs.Lawful.{IsLawfulTree};
 ghost use Rattle.p3l_skel.specs.Numbers.{procs};
-ghost use Rattle.p3l_template.specs.Shape.{Base};
 ghost use Rattle.p3l_link.specs.Counts.{IsCounted};
 ghost use Rattle.p3l_link.specs.Node.{IsFit, kind_of};
 ghost use Rattle.p3l_fitting.specs.Survey.{HasRoomAfter, base_after, followed, linked_survey, node_survey, own_loops};
@@ -75,7 +74,7 @@ fn survey_node(
     let template = template_of(tree, counts, number);
     let place = place_after(survey, at);
     let seats = template.seats(alloc, &place)?;
-    begin(survey, &template, tree, number, tags)?;
+    begin(survey, &template, tree, number, tags, &place)?;
     let inner_tags = tags + template.deeper();
     for seat in seats.as_slice() {
         let part = part_of(tree, number, seat.part);
@@ -94,23 +93,25 @@ fn survey_node(
             survey,
         )?;
     }
-    close(survey, template.is_loop(), &place)
+    close(survey, template.is_loop(), &place)?;
+    Ok(())
 }
 
-// Adds what a template places itself, for a node of a tree.
+// Adds what a template places itself there, for a node of a tree.
 fn begin(
     survey: &mut Survey,
     template: &NodeTemplate,
     tree: &Tree,
     number: u32,
     tags: u32,
+    place: &Place,
 ) -> Result<(), NoMemory>
     requires fit { IsFit template.now }
     requires tags { tags + 2 < 2 ^ 32 }
-    requires room { (base : Base) → survey.old.procs
-        + length ((kind_of template.now).shape.procs base) ≤ 1048576 }
-    ensures { OnGiven result ((base : Base) → survey.new ≡ record survey.old {
-      procs = survey.old.procs + length ((kind_of template.now).shape.procs base);
+    requires room { survey.old.procs
+        + length ((kind_of template.now).shape.procs place.now) ≤ 1048576 }
+    ensures { OnGiven result (survey.new ≡ record survey.old {
+      procs = survey.old.procs + length ((kind_of template.now).shape.procs place.now);
       widths = survey.old.widths ++ (kind_of template.now).widths tree.now number tags;
     }) }
 {
