@@ -34,8 +34,8 @@ use Rattle.p3l_stream.specs.Items.{items_of}
 use Rattle.p3l_profile.specs.Greatest.{Greatest, none_noted, noted_all}
 use Rattle.p3l_profile.specs.Law.{HasTheGreatest, notes_of}
 use Rattle.p3l_profile.specs.Text.{text_of}
-use Rattle.p3l_run.specs.declared.sample.Sampled.{Sampled}
-use Rattle.p3l_run.specs.declared.sample.Sampled.TheVariants as sampled
+use Rattle.p3l_run.specs.declared.sampling.Sampled.{Sampled}
+use Rattle.p3l_run.specs.declared.sampling.Sampled.TheVariants as sampled
 use Rattle.p3l_run.specs.Sampling.{EndsSo, IsSampled, IsValue}
 use Rattle.p3l_program.specs.declared.plan.Accepted.{Accepted}
 use Rattle.p3l_program.specs.Load.{IsProgram}

@@ -32,8 +32,8 @@ use Rattle.p3l_run.specs.declared.end.RunEnd.TheVariants as end
 use Rattle.p3l_profile.specs.Greatest.{Greatest}
 use Rattle.p3l_profile.specs.Law.{profile_text}
 use Rattle.p3l_profile.specs.Text.{text_of}
-use Rattle.p3l_run.specs.declared.sample.Sampled.{Sampled}
-use Rattle.p3l_run.specs.declared.sample.Sampled.TheVariants as sampled
+use Rattle.p3l_run.specs.declared.sampling.Sampled.{Sampled}
+use Rattle.p3l_run.specs.declared.sampling.Sampled.TheVariants as sampled
 use Rattle.p3l_run.specs.Sampling.{IsValue}
 use Rattle.p3l_program.specs.Behavior.{Behavior}
 use Rattle.p3l_program.specs.Expected.{IsExpectedWith}

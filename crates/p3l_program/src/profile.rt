@@ -6,7 +6,7 @@ ghost use Rattle.std.specs.List.{All};
 ghost use Rattle.p3l_skel.specs.Lawful.{IsLawfulTree};
 ghost use Rattle.p3l_units.specs.Table.{HasCode};
 ghost use Rattle.p3l_run.specs.Run.{module_name};
-ghost use Rattle.p3l_run.specs.declared.sample.Sampled.TheVariants as sampled;
+ghost use Rattle.p3l_run.specs.declared.sampling.Sampled.TheVariants as sampled;
 ghost use Rattle.p3l_program.specs.Profile.{IsClosedProfile, IsProfileExpected, IsProfileOf, coded};
 ghost use Rattle.p3l_program.specs.World.{change, files_change, world};
 ghost use Rattle.p3l_program.specs.Wants.{Wants};

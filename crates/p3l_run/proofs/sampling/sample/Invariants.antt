@@ -2,7 +2,7 @@ use Rattle.std.proofs.Common.{◌≡◌}
 use Rattle.p3l_units.specs.Table.{Served}
 use Rattle.p3l_profile.specs.Greatest.{IsProfileOf}
 use Rattle.p3l_run.specs.Sampling.{GivesOn}
-use Rattle.p3l_run.proofs.sample.sample.Given as goal
+use Rattle.p3l_run.proofs.sampling.sample.Given as goal
 
 -- `before` items were given and noted
 abbrev pub invariant-loop-before : goal.invariant-loop-before

@@ -8,7 +8,7 @@ use Rattle.p3l_run.specs.Feed.{Gives, input_limit}
 use Rattle.p3l_run.proofs.FeedSteps.{ending_closed, gives_first, gives_more, item_closed}
 use Rattle.p3l_units.specs.Table.{Served}
 use Rattle.p3l_run.proofs.Steps.{counted_more, noted_more, noted_none}
-use Rattle.p3l_run.proofs.sample.sample.Goals as goal
+use Rattle.p3l_run.proofs.sampling.sample.Goals as goal
 
 pub loop-before-init : goal.loop-before-init
 loop-before-init g c =
