@@ -1,5 +1,5 @@
 -- Each command is simple, so what `clap` says of it is exact.
-use Rattle.std.proofs.Common.{◌≡◌, ◌∙◌, Bool, List, [], ◌∷◌, Option, Some, None, bytes_eq, false, find, true, ap, refl, inl, inr}
+use Rattle.std.proofs.Common.{◌≡◌, ◌∙◌, Bool, List, [], ◌∷◌, Some, bytes_eq, false, find, true, ap, refl, inl, inr}
 use Rattle.std.specs.List.{list_all}
 use Rattle.clap.specs.Words.{App, Text, Kinds, fault_of, matches_of, is_simple, is_simple_and_free, HasKind, kind_of}
 use Rattle.clap.specs.declared.error.Error.{Error}
