@@ -1,5 +1,6 @@
 -- Each command is simple, so what `clap` says of it is exact.
-use Rattle.std.proofs.Common.{◌≡◌, ◌∙◌, Bool, List, [], ◌∷◌, Option, Some, None, all, bytes_eq, false, find, true, ap, refl, inl, inr, sym}
+use Rattle.std.proofs.Common.{◌≡◌, ◌∙◌, Bool, List, [], ◌∷◌, Some, bytes_eq, false, find, true, ap, refl, inl, inr}
+use Rattle.std.specs.List.{list_all}
 use Rattle.clap.specs.Words.{App, Text, Kinds, fault_of, matches_of, is_simple, is_simple_and_free, HasKind, kind_of}
 use Rattle.clap.specs.declared.error.Error.{Error}
 use Rattle.clap.specs.declared.error.kind.ErrorKind.TheVariants.{OutOfMemory}
@@ -8,21 +9,21 @@ use Rattle.p3l_opts.specs.App.{app_for, faults, rows}
 use Rattle.p3l_opts.specs.Table.{Entry, entries, entry_named}
 
 -- what all elements are, one that is found is
-found_is : {A : Type 0} (test is : A → Bool) (xs : List A) (x : A) → all is xs ≡ true → find test xs ≡ Some x → is x ≡ true
+found_is : {A : Type 0} (test is : A → Bool) (xs : List A) (x : A) → list_all is xs ≡ true → find test xs ≡ Some x → is x ≡ true
 found_is test is [] x every found = absurd cc
-found_is test is (y ∷ ys) x every found = by (test y) (is y) refl refl
+found_is {A} test is (y ∷ ys) x every found = by (test y) (is y) refl refl (found_is test is ys x)
   where
-    by : (b c : Bool) → b ≡ test y → c ≡ is y → is x ≡ true
-    by true true h k = cc
-    by false true h k = found_is test is ys x cc cc
-    by b false h k = absurd cc
+    by : (b c : Bool) → b ≡ test y → c ≡ is y → (list_all is ys ≡ true → find test ys ≡ Some x → is x ≡ true) → is x ≡ true
+    by true true h k rest = (let first : Some y ≡ Some x = rw (← h) at found in cc)
+    by false true h k rest = rest (rw (← k) at every) (rw (← h) at found)
+    by b false h k rest = absurd (let no : false ≡ true = rw (← k) at every in cc)
 
-all_simple_and_free : all (λ entry. is_simple_and_free (app_for entry)) entries ≡ true
-unfolding app_for clap_on_literals entries
+all_simple_and_free : list_all (λ entry. is_simple_and_free (app_for entry)) entries ≡ true
+unfolding clap_on_literals entries
 all_simple_and_free = refl
 
-all_simple : all (λ entry. is_simple (app_for entry)) entries ≡ true
-unfolding app_for clap_on_literals entries
+all_simple : list_all (λ entry. is_simple (app_for entry)) entries ≡ true
+unfolding clap_on_literals entries
 all_simple = refl
 
 module _ (name : Text) (entry : Entry) (a : App) (named : entry_named name ≡ Some entry) (is : a ≡ app_for entry) where

@@ -19,7 +19,7 @@ abbrev pub with_word : App → Word → App
 with_word app word = with_rule app (rule_for word)
 
 -- a command as it is declared to `clap`
-unfoldable pub app_for : Entry → App
+abbrev pub app_for : Entry → App
 app_for entry = fold with_word (new_app entry.1) entry.2
 
 -- why `clap` doesn't take the words, nothing where it takes them

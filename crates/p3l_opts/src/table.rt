@@ -1,6 +1,6 @@
 // The commands: a row for each, with its first word and the words that may come after it.
 
-ghost use Rattle.std.specs.Prelude.{◌≡◌, bytes_eq, find};
+ghost use Rattle.std.specs.Prelude.{◌≡◌, bytes_eq, find, map};
 ghost use Rattle.std.specs.Option.{option_map};
 ghost use Rattle.p3l_opts.specs.Table.{entry_named, shown};
 
@@ -196,7 +196,7 @@ pub const COMMANDS: [(Verb, &str, &[Word]); 19] = [
     ),
 ];
 
-/// Returns the first of these commands whose first word this is.
+/// Borrows the first of these commands whose first word this is.
 fn entry_among<'a>(entries: &'a [Entry], word: &str) -> Option<&'a Entry>
     ensures { option_map (λ entry. entry.now) result
         ≡ find (λ entry. bytes_eq entry.1.now word.now) entries.entry.now }
@@ -206,12 +206,20 @@ fn entry_among<'a>(entries: &'a [Entry], word: &str) -> Option<&'a Entry>
         .find(|entry| entry.1.as_bytes() == word.as_bytes())
 }
 
+/// Returns the first of these commands whose first word this is.
+fn entry_in(entries: &[Entry], word: &str) -> Option<Entry>
+    ensures { option_map shown result
+        ≡ find (λ entry. bytes_eq entry.1 word.now) (map shown entries.now) }
+{
+    match entry_among(entries, word) {
+        Some(entry) => Some(*entry),
+        None => None,
+    }
+}
+
 /// Returns the command whose first word this is.
 pub(crate) fn entry_named(word: &str) -> Option<Entry>
     ensures { option_map shown result ≡ entry_named word.now }
 {
-    match entry_among(&COMMANDS, word) {
-        Some(entry) => Some(*entry),
-        None => None,
-    }
+    entry_in(&COMMANDS, word)
 }
