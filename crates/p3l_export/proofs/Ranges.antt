@@ -5,8 +5,8 @@ use Rattle.p3l_skel.specs.declared.tree.Tree.{Tree}
 use Rattle.p3l_cost.specs.declared.costs.Costs.{Costs}
 use Rattle.p3l_firing.specs.declared.net.Chan.{Chan}
 use Rattle.p3l_firing.specs.declared.net.Net.{Net}
-use Rattle.p3l_fitting.specs.declared.width.Width.{Width}
-use Rattle.p3l_fitting.specs.Widths.{width_at}
+use Rattle.p3l_template.specs.declared.width.Width.{Width}
+use Rattle.p3l_template.specs.Width.{width_at}
 use Rattle.p3l_net.specs.Steps.{Ends}
 use Rattle.p3l_export.specs.declared.channels.ChannelRow.{ChannelRow}
 use Rattle.p3l_export.specs.Capacity.{by_size, by_work, capacity_of, end_price, placed, row_of, rows_of}

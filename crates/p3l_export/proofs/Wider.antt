@@ -9,8 +9,8 @@ use Rattle.p3l_firing.specs.Process.{all_ins, all_outs}
 use Rattle.p3l_firing.specs.State.{chan_at, no_chan}
 use Rattle.p3l_firing.specs.Typed.{FitsChannel, IsTyped}
 use Rattle.p3l_firing.specs.Widths.{Widths}
-use Rattle.p3l_fitting.specs.declared.width.Width.{Width}
-use Rattle.p3l_fitting.specs.Widths.{width_at}
+use Rattle.p3l_template.specs.declared.width.Width.{Width}
+use Rattle.p3l_template.specs.Width.{width_at}
 use Rattle.p3l_net.specs.Steps.{Ends}
 use Rattle.p3l_export.specs.declared.channels.ChannelRow.{ChannelRow}
 use Rattle.p3l_export.specs.Capacity.{capacity_of, end_price, placed, row_of, rows_of}

@@ -7,7 +7,7 @@ use Rattle.p3l_cost.specs.declared.costs.Costs.{Costs}
 use Rattle.p3l_firing.specs.declared.net.Chan.{Chan}
 use Rattle.p3l_firing.specs.declared.net.Net.{Net}
 use Rattle.p3l_firing.specs.Typed.{IsTyped}
-use Rattle.p3l_fitting.specs.declared.width.Width.{Width}
+use Rattle.p3l_template.specs.declared.width.Width.{Width}
 use Rattle.p3l_net.specs.Steps.{Ends}
 use Rattle.p3l_export.specs.declared.channels.ChannelRow.{ChannelRow}
 use Rattle.p3l_export.specs.Capacity.{rows_of}

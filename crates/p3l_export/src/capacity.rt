@@ -3,7 +3,6 @@
 ghost use Rattle.std.specs.Prelude.{◌≡◌, ◌≤◌, ◌<◌, ◌^◌, length, max};
 ghost use Rattle.p3l_base.specs.Memory.{IfGiven};
 ghost use Rattle.p3l_firing.specs.Typed.{IsTyped};
-ghost use Rattle.p3l_fitting.specs.Widths.{width_at};
 ghost use Rattle.p3l_export.specs.Capacity.{capacity_of, end_price, placed, price_at, row_of, rows_of, tokens_for};
 
 use crate::channels::ChannelRow;
@@ -11,9 +10,10 @@ use crate::loads::firing_price;
 use p3l_base::{List, NoMemory};
 use p3l_cost::Costs;
 use p3l_firing::{Chan, Net};
-use p3l_fitting::Width;
 use p3l_net::ends::Sides;
 use p3l_skel::Tree;
+use p3l_template::Width;
+use p3l_template::width::width_at;
 use std::alloc::Global;
 
 /// The count of tokens of these words that a channel between processes of this price holds well:
@@ -64,16 +64,6 @@ fn end_price(tree: &Tree, costs: &Costs, net: &Net, ends: &Sides, c: u32) -> u64
 {
     let writer = price_at(tree, costs, net, ends.writer(c));
     writer.max(price_at(tree, costs, net, ends.reader(c)))
-}
-
-/// The width of a channel; one that is not there carries nothing.
-fn width_at(widths: &[Width], c: usize) -> Width
-    ensures { result ≡ width_at widths.now c }
-{
-    widths
-        .get(c)
-        .copied()
-        .unwrap_or(Width { words: 0, tags: 0 })
 }
 
 /// The row of a channel.

@@ -3,6 +3,8 @@
 ghost use Rattle.std.specs.Prelude.{◌≡◌, ◌≤◌, ◌++◌, length};
 ghost use Rattle.p3l_base.specs.Limits.{most_processes};
 ghost use Rattle.p3l_base.specs.Memory.{IfGiven, OnGiven};
+ghost use Rattle.p3l_skel.specs.Counts.{HasLawfulCounts};
+ghost use Rattle.p3l_skel.specs.Lawful.{IsLawfulTree};
 ghost use Rattle.p3l_skel.specs.Numbers.{procs};
 ghost use Rattle.p3l_firing.specs.Typed.{IsTyped};
 ghost use Rattle.p3l_export.specs.File.{IsExport, program_tables};
@@ -30,6 +32,8 @@ fn put_program(
     ends: &Sides,
     chosen: bool,
 ) -> Result<(), NoMemory>
+    requires tree { IsLawfulTree tree.now }
+    requires counts { HasLawfulCounts tree.now counts.now.list }
     requires procs { procs tree.now counts.now.list 0 ≤ most_processes }
     requires few { length net.now.chans ≤ 1048576 }
     requires written { length ends.now.writers ≡ length net.now.chans }
@@ -62,6 +66,8 @@ pub fn export_text(
     bodies: &[u8],
     engine: &str,
 ) -> Result<List<u8>, NoMemory>
+    requires tree { IsLawfulTree tree.now }
+    requires counts { HasLawfulCounts tree.now counts.now.list }
     requires procs { procs tree.now counts.now.list 0 ≤ most_processes }
     requires typed { IsTyped tree.now net.now }
     ensures { IfGiven result (IsExport tree.now counts.now.list costs.now net.now chosen

@@ -34,9 +34,9 @@ use Rattle.p3l_net.specs.declared.shot.Shot.{Shot}
 use Rattle.p3l_net.proofs.Saving.{queue-there}
 use Rattle.p3l_fitting.specs.Decided.{AllFits, BodyFits, IsBareCredit, IsEmptyValue, LoopFits, OwnFits, QueueFits, TokenFits}
 use Rattle.p3l_fitting.specs.Survey.{linked_loops, linked_survey, linked_widths}
-use Rattle.p3l_fitting.specs.Widths.{widths_of}
+use Rattle.p3l_fitting.specs.Survey.{widths_of}
 use Rattle.p3l_fitting.specs.declared.survey.Survey.{Survey}
-use Rattle.p3l_fitting.specs.declared.width.Width.{Width}
+use Rattle.p3l_template.specs.declared.width.Width.{Width}
 
 -- TOKENS
 

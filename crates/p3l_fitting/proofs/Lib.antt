@@ -1,6 +1,5 @@
-pub mod Segmenting
 pub mod Surveying
-pub mod Counting
+pub mod Sized
 pub mod FitsLaw
 pub mod Restored
 pub mod OwnsSteps

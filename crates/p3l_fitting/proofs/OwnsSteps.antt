@@ -11,7 +11,7 @@ use Rattle.p3l_net.specs.declared.shot.Own.{Own}
 use Rattle.p3l_net.specs.declared.shot.Shot.{Shot}
 use Rattle.p3l_net.proofs.Standing.{get_inside}
 use Rattle.p3l_fitting.specs.Decided.{OwnFits}
-use Rattle.p3l_fitting.specs.declared.width.Width.{Width}
+use Rattle.p3l_template.specs.declared.width.Width.{Width}
 
 pub never_true : false ≡ true → ⊥
 never_true e = cc

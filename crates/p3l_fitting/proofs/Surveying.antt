@@ -1,16 +1,23 @@
--- The walk over the nodes inside a node: what is surveyed, followed by what is left, is the whole. It begins so (`whole_is`), each node
--- keeps it (`next_surveyed`), and with none left the whole is surveyed (`all_surveyed`).
-use Rattle.std.proofs.Common.{◌≡◌, ℕ, zero, suc, ◌+◌, ◌-◌, ◌<◌, ◌≤◌, List, [], ◌∷◌, ◌++◌, length, get_or, drop, drop-cons, refl, sym, ap, ap₂, ◌∙◌, arith, append_assoc, append-nil, length-append}
-use Rattle.std.proofs.lemmas.List.{drop_all, get_or_past}
-use Rattle.p3l_skel.specs.declared.tree.Form.{Form}
-use Rattle.p3l_skel.specs.declared.tree.Node.{Node}
+-- The walk over the inner parts of a node: what is surveyed, followed by what is left, is the whole. It begins so (`surveyed_first`), each
+-- part keeps it (`surveyed_next`), and with none left the whole is surveyed (`surveyed_last`). There is room for each part where there is
+-- for the node (`surveyed_room`).
+use Rattle.std.proofs.Common.{◌≡◌, ℕ, zero, suc, ◌+◌, ◌-◌, ◌<◌, ◌≤◌, Bool, List, ◌∷◌, ◌++◌, length, get_or, drop, drop-cons, sym, ap, ap₂, ◌∙◌, subst, arith, append_assoc, append-nil, length-append}
+use Rattle.std.proofs.lemmas.List.{drop_all, get_or_default}
 use Rattle.p3l_skel.specs.declared.tree.Tree.{Tree}
-use Rattle.p3l_skel.specs.Tree.{no_node, node_at}
+use Rattle.p3l_skel.specs.Lawful.{IsLawfulTree}
+use Rattle.p3l_skel.specs.Tree.{part_at}
 use Rattle.p3l_net.specs.Fitting.{LoopPlace}
-use Rattle.p3l_fitting.specs.Survey.{followed, inner_survey, no_survey, node_survey, own_loops, own_procs, survey_inside, survey_round}
-use Rattle.p3l_fitting.specs.Widths.{copies, deeper, own_widths, seat_nodes}
+use Rattle.p3l_template.specs.Kind.{Kind}
+use Rattle.p3l_template.specs.Shape.{Base, Seat, no_seat, ports_of}
+use Rattle.p3l_template.specs.declared.template.Ports.{Ports}
+use Rattle.p3l_template.specs.declared.width.Width.{Width}
+use Rattle.p3l_link.specs.Counts.{IsCounted}
+use Rattle.p3l_link.specs.Net.{base_at}
+use Rattle.p3l_link.specs.Shape.{kind_at}
+use Rattle.p3l_link.proofs.Counted.{counted_deep, counted_own, counted_there, seat_counted}
+use Rattle.p3l_link.proofs.Typing.{widths_counted}
+use Rattle.p3l_fitting.specs.Survey.{HasRoomAfter, base_after, followed, inner_survey, no_survey, node_survey, own_loops, survey_inside, survey_round}
 use Rattle.p3l_fitting.specs.declared.survey.Survey.{Survey}
-use Rattle.p3l_fitting.specs.declared.width.Width.{Width}
 
 three : (p q : ℕ) (v w : List Width) (l m : List LoopPlace) → p ≡ q → v ≡ w → l ≡ m →
     ◌≡◌ {A = Survey} (record { procs = p; widths = v; loops = l }) (record { procs = q; widths = w; loops = m })
@@ -29,212 +36,206 @@ followed_followed a b c =
 followed_none : (a : Survey) → followed a no_survey ≡ a
 followed_none a = three _ _ _ _ _ _ (omega arith) (append-nil a.widths) (append-nil a.loops)
 
--- at depth 0 there is one process
-pub bottom_is : (tree : Tree) (count : ℕ → ℕ) (d k t p c : ℕ) → d ≡ 0 →
-    node_survey tree count d k t p c ≡ record { procs = 1; widths = []; loops = [] }
-unfolding node_survey
-bottom_is tree count zero k t p c none = refl
-bottom_is tree count (suc d) k t p c none = absurd (omega arith)
-
--- what the nodes inside node k are surveyed to have
-abbrev pub inside : Tree → (ℕ → ℕ) → (d k t : ℕ) → ℕ → (p c : ℕ) → Survey
-inside tree count d k t = λ q. node_survey tree count (d - 1) q (t + deeper (node_at tree k).form)
-
-node_is : (tree : Tree) (count : ℕ → ℕ) (d k t p c : ℕ) → 0 < d →
-    node_survey tree count d k t p c
-    ≡ survey_round tree (node_at tree k) k (count k) t p c
-    (inner_survey (inside tree count d k t) (seat_nodes (node_at tree k) (count k))
-    (p + own_procs (node_at tree k).form (count k)) (c + length (own_widths tree k (count k) t (node_at tree k).form (node_at tree k).parts)))
-unfolding node_survey
-node_is tree count zero k t p c some = absurd (omega arith)
-node_is tree count (suc d) k t p c some =
-    let e : d ≡ suc d - 1 = omega arith in
-    ap (λ z. survey_round tree (node_at tree k) k (count k) t p c
-    (inner_survey (λ q. node_survey tree count z q (t + deeper (node_at tree k).form)) (seat_nodes (node_at tree k) (count k))
-    (p + own_procs (node_at tree k).form (count k)) (c + length (own_widths tree k (count k) t (node_at tree k).form (node_at tree k).parts)))) e
-
-module _ (f : ℕ → (p c : ℕ) → Survey) (ks : List ℕ) (s : Survey) (whole : Survey) (i : ℕ)
-    (left : followed s (inner_survey f (drop i ks) s.procs (length s.widths)) ≡ whole) where
-  -- with no node left
-  all_surveyed : length ks ≤ i → s ≡ whole
+module _ (f : ℕ → Base → Survey) (seats : List Seat) (s : Survey) (whole : Survey) (i : ℕ)
+    (left : followed s (inner_survey f (drop i seats) s.procs (length s.widths)) ≡ whole) where
+  -- with no part left
+  all_surveyed : length seats ≤ i → s ≡ whole
   unfolding inner_survey
   all_surveyed none =
-      sym (followed_none s) ∙ ap (λ z. followed s (inner_survey f z s.procs (length s.widths))) (sym (drop_all i ks none)) ∙ left
+      sym (followed_none s) ∙ ap (λ z. followed s (inner_survey f z s.procs (length s.widths))) (sym (drop_all i seats none)) ∙ left
+
+  abbrev seat : Seat
+  seat = get_or seats i no_seat
 
   here : Survey
-  here = f (get_or ks i 0) s.procs (length s.widths)
+  here = f (get_or seats i no_seat).part (base_at (get_or seats i no_seat) s.procs (length s.widths))
 
   more : Survey
-  more = inner_survey f (drop (i + 1) ks) (s.procs + here.procs) (length s.widths + length here.widths)
+  more = inner_survey f (drop (i + 1) seats) (s.procs + here.procs) (length s.widths + length here.widths)
 
-  split : i < length ks → followed s (followed here more) ≡ whole
+  split : i < length seats → followed s (followed here more) ≡ whole
   unfolding inner_survey here more
   split there =
       let e : suc i ≡ i + 1 = omega arith in
       ap (λ z. followed s (inner_survey f z s.procs (length s.widths)))
-      (sym (drop-cons ks i 0 there ∙ ap (λ j. get_or ks i 0 ∷ drop j ks) e)) ∙ left
+      (sym (drop-cons seats i no_seat there ∙ ap (λ j. get_or seats i no_seat ∷ drop j seats) e)) ∙ left
 
-  -- there is room for the next node where there is for all
-  next_room : i < length ks → s.procs + (f (get_or ks i 0) s.procs (length s.widths)).procs ≤ whole.procs
+  -- there is room for the next part where there is for all
+  next_room : i < length seats →
+      (s.procs + (f seat.part (base_at seat s.procs (length s.widths))).procs ≤ whole.procs)
+      × (length s.widths + length (f seat.part (base_at seat s.procs (length s.widths))).widths ≤ length whole.widths)
   unfolding here
-  next_room there = let e = ap (λ (z : Survey). z.procs) (split there) in omega (arith, e)
+  next_room there =
+      let e = ap (λ (z : Survey). z.procs) (split there) in
+      let w = ap (λ (z : Survey). length z.widths) (split there) in (
+        omega (arith, e),
+        omega (arith, w, length-append s.widths (here.widths ++ more.widths), length-append here.widths more.widths),
+      )
 
-  next_surveyed : i < length ks → (s' : Survey) → s' ≡ followed s (f (get_or ks i 0) s.procs (length s.widths)) →
-      followed s' (inner_survey f (drop (i + 1) ks) s'.procs (length s'.widths)) ≡ whole
+  next_surveyed : i < length seats → (s' : Survey) → s' ≡ followed s (f seat.part (base_at seat s.procs (length s.widths))) →
+      followed s' (inner_survey f (drop (i + 1) seats) s'.procs (length s'.widths)) ≡ whole
   unfolding here more
   next_surveyed there s' e =
-      ap (λ (z : Survey). followed z (inner_survey f (drop (i + 1) ks) z.procs (length z.widths))) e
-      ∙ ap (λ n. followed (followed s here) (inner_survey f (drop (i + 1) ks) (s.procs + here.procs) n))
+      ap (λ (z : Survey). followed z (inner_survey f (drop (i + 1) seats) z.procs (length z.widths))) e
+      ∙ ap (λ n. followed (followed s here) (inner_survey f (drop (i + 1) seats) (s.procs + here.procs) n))
       (length-append s.widths here.widths)
       ∙ followed_followed s here more ∙ split there
 
--- node k of a tree, after what was surveyed before it
-module _ (tree : Tree) (count : ℕ → ℕ) (d k t : ℕ) (before : Survey) where
-  abbrev form : Form
-  form = (node_at tree k).form
+-- node k of a tree between two channels, after what was surveyed before it
+module _ (tree : Tree) (count : ℕ → ℕ) (d k t : ℕ) (at : Ports) (before : Survey) where
+  abbrev base : Base
+  base = base_after at before
 
-  abbrev own : List Width
-  own = own_widths tree k (count k) t (node_at tree k).form (node_at tree k).parts
+  abbrev kind : Kind
+  kind = kind_at tree count k
 
-  abbrev nodes : List ℕ
-  nodes = seat_nodes (node_at tree k) (count k)
+  abbrev row : List Width
+  row = (kind_at tree count k).widths tree k t
+
+  abbrev seats : List Seat
+  seats = (kind_at tree count k).shape.seats (base_after at before)
+
+  -- what the inner parts are surveyed to have
+  abbrev inside : ℕ → Base → Survey
+  inside v = node_survey tree count (d - 1) (part_at tree k v) (t + (kind_at tree count k).deeper)
 
   -- with the node's own processes and channels
   abbrev pub begun : Survey
   begun = record {
-    procs = before.procs + own_procs (node_at tree k).form (count k);
-    widths = before.widths ++ own_widths tree k (count k) t (node_at tree k).form (node_at tree k).parts;
+    procs = before.procs + length ((kind_at tree count k).shape.procs (base_after at before));
+    widths = before.widths ++ (kind_at tree count k).widths tree k t;
     loops = before.loops;
   }
 
   -- and all that is inside it
-  abbrev pub filled : Survey
-  filled = followed begun (inner_survey (inside tree count d k t) nodes begun.procs (length begun.widths))
+  abbrev filled : Survey
+  filled = followed begun (inner_survey inside seats begun.procs (length begun.widths))
 
-  -- what is surveyed of the nodes inside, with those from the i-th on, is that
+  -- what is surveyed of the inner parts, with those from the i-th on, is that
   abbrev pub IsSurveyed : Survey → ℕ → Type 0
-  IsSurveyed s i = followed s (inner_survey (inside tree count d k t) (drop i nodes) s.procs (length s.widths)) ≡ filled
+  IsSurveyed s i = followed s (inner_survey inside (drop i seats) s.procs (length s.widths)) ≡ filled
 
-  module _ (some : 0 < d) where
+  abbrev node : Survey
+  node = node_survey tree count d k t base
+
+  module _ (lawful : IsLawfulTree tree) (counted : IsCounted tree count d k) where
+    there : k < length tree.nodes
+    there = counted_there tree count d k counted
+
+    some : 0 < d
+    some = counted_deep tree count d k counted
+
+    node_is : node ≡ survey_round kind row base (survey_inside kind row base inside)
+    unfolding node_survey
+    node_is = go d some
+      where
+        go : (n : ℕ) → 0 < n → node_survey tree count n k t base
+            ≡ survey_round kind row base
+            (survey_inside kind row base (λ v. node_survey tree count (n - 1) (part_at tree k v) (t + kind.deeper)))
+        go zero none = absurd (omega arith)
+        go (suc n) more =
+            let e : n ≡ suc n - 1 = omega arith in
+            ap (λ z. survey_round kind row base
+            (survey_inside kind row base (λ v. node_survey tree count z (part_at tree k v) (t + kind.deeper)))) e
+
     abbrev inner : Survey
-    inner = inner_survey (inside tree count d k t) nodes (before.procs + own_procs form (count k)) (length before.widths + length own)
+    inner = survey_inside kind row base inside
 
     filled_is : filled ≡ followed begun inner
     filled_is =
-        ap (λ n. followed begun (inner_survey (inside tree count d k t) nodes (before.procs + own_procs form (count k)) n))
-        (length-append before.widths own)
+        ap (λ n. followed begun (inner_survey inside seats (before.procs + length (kind.shape.procs base)) n))
+        (length-append before.widths row)
 
-    abbrev node : Survey
-    node = node_survey tree count d k t before.procs (length before.widths)
+    node_procs : node.procs ≡ length (kind.shape.procs base) + inner.procs
+    node_procs = ap (λ (z : Survey). z.procs) node_is
 
-    node_procs : node.procs ≡ own_procs form (count k) + inner.procs
-    node_procs = ap (λ (z : Survey). z.procs) (node_is tree count d k t before.procs (length before.widths) some)
+    node_widths : length node.widths ≡ length row + length inner.widths
+    node_widths = ap (λ (z : Survey). length z.widths) node_is ∙ length-append row inner.widths
 
-    -- the node's own processes are no more than all of its
-    pub own_room : before.procs + own_procs (node_at tree k).form (count k)
-        ≤ before.procs + (node_survey tree count d k t before.procs (length before.widths)).procs
-    own_room = omega (arith, node_procs)
+    -- there is room for the node's own processes and channels
+    pub own_room : HasRoomAfter before node.procs (length node.widths) →
+        HasRoomAfter before (length (kind.shape.procs base)) (kind.shape.chans base)
+    own_room room =
+        let p = node_procs in
+        let w = node_widths in
+        let long = widths_counted tree count k lawful there (counted_own tree count d k counted) t base in
+        (omega (arith, room.0, p), omega (arith, room.1, w, long))
 
-    pub filled_procs : filled.procs ≡ before.procs + (node_survey tree count d k t before.procs (length before.widths)).procs
-    filled_procs = let e = ap (λ (z : Survey). z.procs) filled_is in omega (arith, e, node_procs)
+    filled_procs : filled.procs ≡ before.procs + node.procs
+    filled_procs = let e = ap (λ (z : Survey). z.procs) filled_is in let p = node_procs in omega (arith, e, p)
+
+    filled_widths : length filled.widths ≡ length before.widths + length node.widths
+    filled_widths =
+        let e = ap (λ (z : Survey). length z.widths) filled_is in
+        let w = node_widths in
+        omega (arith, e, w, length-append (before.widths ++ row) inner.widths, length-append before.widths row)
 
     -- the node's own loop, and the whole is surveyed
-    pub closed : (s : Survey) → s ≡ filled → (s' : Survey) →
-        s' ≡ record s { loops = s.loops ++ own_loops (node_at tree k).form before.procs (length before.widths) s.procs (length s.widths) } →
-        s' ≡ followed before (node_survey tree count d k t before.procs (length before.widths))
-    closed s full s' last =
-        let procs : s'.procs ≡ s.procs = ap (λ (z : Survey). z.procs) last in
-        let widths : s'.widths ≡ s.widths = ap (λ (z : Survey). z.widths) last in
-        let loops = ap (λ (z : Survey). z.loops) last in
-        let e = full ∙ filled_is in
-        let ps : s.procs ≡ (before.procs + own_procs form (count k)) + inner.procs = ap (λ (z : Survey). z.procs) e in
-        let ws : s.widths ≡ (before.widths ++ own) ++ inner.widths = ap (λ (z : Survey). z.widths) e in
+    pub closed : (items : List Seat) → items ≡ seats → (s : Survey) (i : ℕ) → IsSurveyed s i → length items ≤ i → (is : Bool) → is ≡ kind.is_loop →
+        (b : Base) → b ≡ base → (s' : Survey) →
+        s' ≡ record s { loops = s.loops ++ own_loops is b.proc b.chan s.procs (length s.widths) } → s' ≡ followed before node
+    closed items items_are s i left past is loops_is b same s' last =
+        let none : length seats ≤ i = omega (arith, past, ap length items_are) in
+        let e = all_surveyed inside seats s filled i left none ∙ filled_is in
+        let ps : s.procs ≡ (before.procs + length (kind.shape.procs base)) + inner.procs = ap (λ (z : Survey). z.procs) e in
+        let ws : s.widths ≡ (before.widths ++ row) ++ inner.widths = ap (λ (z : Survey). z.widths) e in
         let ls : s.loops ≡ before.loops ++ inner.loops = ap (λ (z : Survey). z.loops) e in
-        let many : length s.widths ≡ length before.widths + length own + length inner.widths =
-        omega (arith, ap length ws, length-append (before.widths ++ own) inner.widths, length-append before.widths own) in
-        three s'.procs (before.procs + (own_procs form (count k) + inner.procs)) s'.widths (before.widths ++ (own ++ inner.widths))
-        s'.loops
+        let many : length s.widths ≡ length before.widths + length row + length inner.widths =
+        omega (arith, ap length ws, length-append (before.widths ++ row) inner.widths, length-append before.widths row) in
+        last ∙ ap (λ (x : Base). with_loops s (s.loops ++ own_loops is x.proc x.chan s.procs (length s.widths))) same
+        ∙ three s.procs (before.procs + (length (kind.shape.procs base) + inner.procs)) s.widths (before.widths ++ (row ++ inner.widths)) _
         (before.loops
         ++ (inner.loops
-        ++ own_loops form before.procs (length before.widths) (before.procs + own_procs form (count k) + inner.procs)
-        (length before.widths + length own + length inner.widths)))
-        (omega (arith, procs, ps)) (widths ∙ ws ∙ append_assoc before.widths own inner.widths)
-        (loops
-        ∙ ap₂ (λ l m. l ++ m) ls
-        (ap₂ (λ r e. own_loops form before.procs (length before.widths) r e) ps many)
+        ++ own_loops kind.is_loop before.procs (length before.widths) (before.procs + length (kind.shape.procs base) + inner.procs)
+        (length before.widths + length row + length inner.widths)))
+        (omega (arith, ps)) (ws ∙ append_assoc before.widths row inner.widths)
+        (ap (λ b. s.loops ++ own_loops b before.procs (length before.widths) s.procs (length s.widths)) loops_is
+        ∙ ap₂ (λ l m. l ++ m) ls (ap₂ (λ r e. own_loops kind.is_loop before.procs (length before.widths) r e) ps many)
         ∙ append_assoc before.loops inner.loops _)
-        ∙ ap (followed before) (sym (node_is tree count d k t before.procs (length before.widths) some))
+        ∙ ap (followed before) (sym node_is)
 
-    pub surveyed_first : (s : Survey) → s ≡ begun → IsSurveyed s 0
-    surveyed_first s e = ap (λ (z : Survey). followed z (inner_survey (inside tree count d k t) nodes z.procs (length z.widths))) e
+    -- the node's own processes and channels, by a template of its kind at its place
+    pub surveyed_first : (one : Kind) → one ≡ kind → (b : Base) → b ≡ base → (s : Survey) →
+        s ≡ record before { procs = before.procs + length (one.shape.procs b); widths = before.widths ++ one.widths tree k t } → IsSurveyed s 0
+    surveyed_first one is b same s e =
+        ap (λ (z : Survey). followed z (inner_survey inside seats z.procs (length z.widths)))
+        (e ∙ ap₂ (λ (z : Kind) (x : Base). with_own before (before.procs + length (z.shape.procs x)) (before.widths ++ z.widths tree k t)) is same)
 
-    pub surveyed_last : (s : Survey) (i : ℕ) → IsSurveyed s i → length nodes ≤ i → s ≡ filled
-    surveyed_last s i left none = all_surveyed (inside tree count d k t) nodes s filled i left none
+    module _ (items : List Seat) (items_are : items ≡ seats) (s : Survey) (i : ℕ) (left : IsSurveyed s i) (l : i < length items) (x y : Seat)
+        (same : x ≡ y) (found : y ≡ get_or items i y) (part : ℕ) (part_is : part ≡ part_at tree k x.part) where
+      below : i < length seats
+      below = let e = ap length items_are in omega (arith, l, e)
 
-    pub surveyed_room : (s : Survey) (i : ℕ) → IsSurveyed s i → i < length nodes →
-        s.procs + (inside tree count d k t (get_or nodes i 0) s.procs (length s.widths)).procs
-        ≤ before.procs + (node_survey tree count d k t before.procs (length before.widths)).procs
-    surveyed_room s i left there =
-        let room = next_room (inside tree count d k t) nodes s filled i left there in omega (arith, room, filled_procs)
+      seat_is : x ≡ get_or seats i no_seat
+      seat_is = same ∙ found ∙ ap (λ xs. get_or xs i y) items_are ∙ get_or_default seats i y no_seat below
 
-    pub surveyed_next : (s : Survey) (i : ℕ) → IsSurveyed s i → i < length nodes → (s' : Survey) →
-        s' ≡ followed s (inside tree count d k t (get_or nodes i 0) s.procs (length s.widths)) → IsSurveyed s' (i + 1)
-    surveyed_next s i left there s' e = next_surveyed (inside tree count d k t) nodes s filled i left there s' e
+      part_there : part ≡ part_at tree k (get_or seats i no_seat).part
+      part_there = part_is ∙ ap (λ (z : Seat). part_at tree k z.part) seat_is
 
--- the same by the node that was found, and the number of its workers
-module _ (tree : Tree) (count : ℕ → ℕ) (d k t : ℕ) (before : Survey) (node : Node) (n : ℕ) (found : node ≡ node_at tree k)
-    (many : n ≡ count k) where
-  pub begun_is : (s : Survey) →
-      s ≡ record before {
-        procs = before.procs + own_procs node.form n;
-        widths = before.widths ++ own_widths tree k n t node.form node.parts;
-      } → s ≡ begun tree count d k t before
-  begun_is s e =
-      e
-      ∙ ap₂ (λ (z : Node) m. with_own before (before.procs + own_procs z.form m) (before.widths ++ own_widths tree k m t z.form z.parts)) found many
+      pub part_counted : IsCounted tree count (d - 1) part
+      part_counted =
+          let more = some in
+          let e : d ≡ suc (d - 1) = omega (arith, more) in
+          subst (IsCounted tree count (d - 1)) (sym part_there)
+          (seat_counted tree count k lawful there base i below (d - 1) (subst (λ n. IsCounted tree count n k) e counted))
 
-  pub nodes_are : (items : List ℕ) → items ≡ seat_nodes node n → items ≡ seat_nodes (node_at tree k) (count k)
-  nodes_are items e = e ∙ ap₂ seat_nodes found many
+      module _ (u : ℕ) (u_is : u ≡ t + kind.deeper) where
+        abbrev surveyed : Survey
+        surveyed = node_survey tree count (d - 1) part u (base_after (ports_of x) s)
 
-  pub begin_room : 0 < d → before.procs + own_procs node.form n
-      ≤ before.procs + (node_survey tree count d k t before.procs (length before.widths)).procs
-  begin_room some =
-      let e = ap₂ (λ (z : Node) m. own_procs z.form m) found many in
-      let room = own_room tree count d k t before some in omega (arith, e, room)
+        surveyed_is : surveyed ≡ inside (get_or seats i no_seat).part (base_at (get_or seats i no_seat) s.procs (length s.widths))
+        surveyed_is =
+            ap₂ (λ m n. node_survey tree count (d - 1) m n (base_after (ports_of x) s)) part_there u_is
+            ∙ ap (λ (z : Seat). node_survey tree count (d - 1) (part_at tree k (get_or seats i no_seat).part) (t + kind.deeper) (base_after (ports_of z) s))
+            seat_is
 
-  pub next_is : (items : List ℕ) (i u p c : ℕ) → items ≡ seat_nodes node n → u ≡ deeper node.form →
-      node_survey tree count (d - 1) (get_or items i 0) (t + u) p c
-      ≡ inside tree count d k t (get_or (seat_nodes (node_at tree k) (count k)) i 0) p c
-  next_is items i u p c e more =
-      ap₂ (λ q v. node_survey tree count (d - 1) q (t + v) p c) (ap (λ z. get_or z i 0) (nodes_are items e))
-      (more ∙ ap (λ (z : Node). deeper z.form) found)
+        pub part_room : HasRoomAfter before node.procs (length node.widths) → HasRoomAfter s surveyed.procs (length surveyed.widths)
+        part_room room =
+            let next = next_room inside seats s filled i left below in
+            let p = filled_procs in
+            let w = filled_widths in
+            subst (λ (z : Survey). HasRoomAfter s z.procs (length z.widths)) (sym surveyed_is)
+            (omega (arith, next.0, p, room.0), omega (arith, next.1, w, room.1))
 
-  pub closing : (s s' : Survey) (from : ℕ) → from ≡ length before.widths →
-      s' ≡ record s { loops = s.loops ++ own_loops node.form before.procs from s.procs (length s.widths) } →
-      s' ≡ record s { loops = s.loops ++ own_loops (node_at tree k).form before.procs (length before.widths) s.procs (length s.widths) }
-  closing s s' from start e =
-      e
-      ∙ ap₂ (λ (z : Node) c. with_loops s (s.loops ++ own_loops z.form before.procs c s.procs (length s.widths))) found start
-
--- a node that is not there has nothing
-nothing_round : (tree : Tree) (count : ℕ → ℕ) (d k t p c : ℕ) (n : ℕ) →
-    survey_round tree no_node k n t p c (survey_inside tree no_node k n t p c (λ q t p c. node_survey tree count d q t p c)) ≡ no_survey
-unfolding own_widths inner_survey copies
-nothing_round tree count d k t p c n = refl
-
-pub missing_is : (tree : Tree) (count : ℕ → ℕ) (d k t p c : ℕ) → 0 < d → length tree.nodes ≤ k →
-    node_survey tree count d k t p c ≡ no_survey
-missing_is tree count d k t p c some past =
-    node_is tree count d k t p c some
-    ∙ ap (λ node. survey_round tree node k (count k) t p c
-    (survey_inside tree node k (count k) t p c (λ q t p c. node_survey tree count (d - 1) q t p c)))
-    (get_or_past tree.nodes k no_node past)
-    ∙ nothing_round tree count (d - 1) k t p c (count k)
-
-pub bottom_followed : (tree : Tree) (count : ℕ → ℕ) (d k t p c : ℕ) (a b : Survey) → d ≡ 0 → b ≡ record a { procs = a.procs + 1 } →
-    b ≡ followed a (node_survey tree count d k t p c)
-bottom_followed tree count d k t p c a b none e =
-    e ∙ three _ _ _ _ _ _ refl (sym (append-nil a.widths)) (sym (append-nil a.loops)) ∙ ap (followed a) (sym (bottom_is tree count d k t p c none))
-
-pub followed_nothing : (a b : Survey) → b ≡ no_survey → a ≡ followed a b
-followed_nothing a b e = sym (ap (followed a) e ∙ followed_none a)
+        pub surveyed_next : (s' : Survey) → s' ≡ followed s surveyed → IsSurveyed s' (i + 1)
+        surveyed_next s' e = next_surveyed inside seats s filled i left below s' (e ∙ ap (followed s) surveyed_is)

@@ -18,8 +18,9 @@ use Rattle.p3l_net.specs.Shot.{IsCountable, saved_at}
 use Rattle.p3l_net.specs.declared.shot.Own.{Own}
 use Rattle.p3l_net.specs.declared.shot.SavedToken.{SavedToken}
 use Rattle.p3l_net.specs.declared.shot.Shot.{Shot}
-use Rattle.p3l_fitting.specs.Widths.{width_at, widths_of}
-use Rattle.p3l_fitting.specs.declared.width.Width.{Width}
+use Rattle.p3l_template.specs.Width.{width_at}
+use Rattle.p3l_fitting.specs.Survey.{widths_of}
+use Rattle.p3l_template.specs.declared.width.Width.{Width}
 
 -- an outcome has this number of words, or is a trap of a module of the tree
 abbrev pub BodyFits : Tree → ℕ → Outcome → Type 0

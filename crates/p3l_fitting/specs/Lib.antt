@@ -1,4 +1,3 @@
-pub mod Widths
 pub mod Survey
 pub mod Decided
 pub mod Restoring

@@ -4,14 +4,15 @@ ghost use Rattle.std.specs.Prelude.{◌≡◌, ◌↔◌, IsTrue, EachIndex};
 ghost use Rattle.p3l_firing.specs.State.{chan_at};
 ghost use Rattle.p3l_net.specs.Shot.{saved_at};
 ghost use Rattle.p3l_fitting.specs.Decided.{QueueFits};
-ghost use Rattle.p3l_fitting.specs.Widths.{width_at};
+ghost use Rattle.p3l_template.specs.Width.{width_at};
 
 use crate::shots::tokens;
 use crate::tokens::tokens_fit;
-use crate::width::{Width, width_at};
 use p3l_firing::{Chan, Net};
 use p3l_net::{SavedToken, Shot};
 use p3l_skel::Tree;
+use p3l_template::Width;
+use p3l_template::width::width_at;
 
 /// Returns true exactly if a channel has room for its tokens, and they have its width.
 fn queue_fits(tree: &Tree, chan: Chan, width: Width, saved: &[SavedToken]) -> bool

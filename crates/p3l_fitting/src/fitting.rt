@@ -3,6 +3,8 @@
 ghost use Rattle.std.specs.Prelude.{◌≡◌, ◌↔◌, ◌≤◌, IsTrue, IfSome, length};
 ghost use Rattle.p3l_base.specs.Limits.{most_processes};
 ghost use Rattle.p3l_base.specs.Memory.{IfGiven};
+ghost use Rattle.p3l_skel.specs.Counts.{HasLawfulCounts};
+ghost use Rattle.p3l_skel.specs.Lawful.{IsLawfulTree};
 ghost use Rattle.p3l_skel.specs.Numbers.{procs};
 ghost use Rattle.p3l_skel.specs.Tree.{node_at};
 ghost use Rattle.p3l_net.specs.Fitting.{Fitting};
@@ -68,7 +70,9 @@ pub fn is_fitting(
     net: &Net,
     shot: &Shot,
 ) -> Result<bool, NoMemory>
-    requires { procs tree.now counts.now.list 0 ≤ most_processes }
+    requires tree { IsLawfulTree tree.now }
+    requires counts { HasLawfulCounts tree.now counts.now.list }
+    requires procs { procs tree.now counts.now.list 0 ≤ most_processes }
     ensures { IfGiven result (λ yes. IsTrue yes ↔ Fitting tree.now net.now
         (linked_widths tree.now counts.now.list) (linked_loops tree.now counts.now.list)
         shot.now) }

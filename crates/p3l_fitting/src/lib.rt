@@ -12,9 +12,7 @@ pub mod shots;
 pub mod survey;
 pub mod tokens;
 pub mod walk;
-pub mod width;
 
 pub use fitting::is_fitting;
 pub use survey::{LoopPlace, Survey};
 pub use walk::surveyed;
-pub use width::Width;

@@ -5,15 +5,16 @@ ghost use Rattle.std.specs.List.{All};
 ghost use Rattle.p3l_net.specs.Fitting.{FitsLoop, IsTurning, own_saved_at};
 ghost use Rattle.p3l_net.specs.Shot.{saved_at};
 ghost use Rattle.p3l_fitting.specs.Decided.{LoopFits};
-ghost use Rattle.p3l_fitting.specs.Widths.{widths_of};
+ghost use Rattle.p3l_fitting.specs.Survey.{widths_of};
 
 use crate::numbers::{channel, most_tokens, most_turns};
 use crate::shots::{held, number, tokens};
 use crate::survey::LoopPlace;
-use crate::width::{Width, width_at};
 use p3l_firing::{Net, Proc};
 use p3l_net::{SavedToken, Shot};
 use p3l_skel::Tree;
+use p3l_template::Width;
+use p3l_template::width::width_at;
 
 /// Bounds of the two tags of a loop: its tokens have `depth` tags outside it, then a number below
 /// `next`, then a turn from 1 to `turns`.

@@ -9,10 +9,11 @@ ghost use Rattle.p3l_fitting.specs.Decided.{HeldFits, OwnFits};
 use crate::numbers::{channel, last_element, part, room};
 use crate::shots::tokens;
 use crate::tokens::{are_credits, tokens_fit};
-use crate::width::{Width, outs_width, width_at};
 use p3l_firing::{Net, Proc, ProcKind};
 use p3l_net::{Own, Shot};
 use p3l_skel::Tree;
+use p3l_template::Width;
+use p3l_template::width::{outs_width, width_at};
 
 /// Returns true exactly if at most `most` tokens are held, all of this width.
 fn held_fits(tree: &Tree, width: Width, most: u64, own: &Own) -> bool

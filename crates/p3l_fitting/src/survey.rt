@@ -1,13 +1,13 @@
 // Surveys of linked nets.
 
-ghost use Rattle.std.specs.Prelude.{◌≡◌, ◌+◌, ◌≤◌, ◌++◌, ◌^◌, ◌<◌, length};
-ghost use Rattle.p3l_base.specs.Memory.{IfGiven, OnGiven};
-ghost use Rattle.p3l_skel.specs.Numbers.{joined_procs};
-ghost use Rattle.p3l_fitting.specs.Survey.{end_survey, own_procs, own_loops};
+ghost use Rattle.std.specs.Prelude.{◌≡◌};
+ghost use Rattle.p3l_base.specs.Memory.{IfGiven};
+ghost use Rattle.p3l_fitting.specs.Survey.{end_survey};
 
-use crate::width::{Width, ins_width, outs_width};
 use p3l_base::{List, NoMemory};
-use p3l_skel::{Form, Tree};
+use p3l_skel::Tree;
+use p3l_template::Width;
+use p3l_template::width::{ins_width, outs_width};
 use std::alloc::Global;
 use std::marker::Model;
 
@@ -60,50 +60,5 @@ impl Survey {
             widths,
             loops: List::new(alloc),
         })
-    }
-}
-
-/// The count of processes that a node of this form places itself, with `n` workers or segments.
-pub(crate) fn own_procs(form: &Form, n: u32) -> usize
-    ensures value { result ≡ own_procs form.now n }
-    ensures few { result ≤ 2 ^ 33 }
-{
-    match form {
-        Form::Seq | Form::Comp => 1,
-        Form::Pipe => 0,
-        Form::Farm { .. } | Form::Map { .. } | Form::Loop { .. } => 2,
-        Form::Reduce { .. } => { if n == 1 { 1 } else { 2 * n as usize } }
-    }
-}
-
-/// Puts the loop of a node behind the others, if its form is that of one: it lies from the process
-/// and the channel `from` on, before those of `to`.
-pub(crate) fn push_loops(
-    loops: &mut List<LoopPlace>,
-    form: &Form,
-    proc_from: usize,
-    chan_from: usize,
-    proc_to: usize,
-    chan_to: usize,
-) -> Result<(), NoMemory>
-    requires { proc_from + 1 < 2 ^ 64 }
-    ensures { OnGiven result (loops.new
-        ≡ loops.old ++ own_loops form.now proc_from chan_from proc_to chan_to) }
-{
-    match form {
-        Form::Loop { .. } => loops.push(LoopPlace {
-            head: proc_from,
-            tail: proc_from + 1,
-            proc_from,
-            proc_to,
-            chan_from,
-            chan_to,
-        }),
-        Form::Seq
-        | Form::Comp
-        | Form::Pipe
-        | Form::Farm { .. }
-        | Form::Map { .. }
-        | Form::Reduce { .. } => Ok(()),
     }
 }

@@ -4,10 +4,10 @@ ghost use Rattle.std.specs.Prelude.{◌≡◌, ◌↔◌, IsTrue};
 ghost use Rattle.std.specs.List.{All};
 ghost use Rattle.p3l_fitting.specs.Decided.{BodyFits, IsBareCredit, IsEmptyValue, TokenFits};
 
-use crate::width::Width;
 use p3l_base::Outcome;
 use p3l_net::SavedToken;
 use p3l_skel::Tree;
+use p3l_template::Width;
 
 /// Returns true exactly if an outcome has this number of words, or is a trap of a module of the
 /// tree.

@@ -1,32 +1,31 @@
 -- The nodes of a lawful tree under lawful counts can be placed (`root_counted`), their templates
 -- are lawful (`shape_lawful`), and the part at a seat can be placed one level down
--- (`seat_counted`).
-use Rattle.std.proofs.Common.{◌≡◌, ℕ, zero, suc, ◌+◌, ◌-◌, ◌<◌, List, [], ◌∷◌, ◌++◌, length, get_or, slice_index, refl, sym, ap, ◌∙◌, subst, arith}
+-- (`seat_counted`). A template's numbers are in range (`template_fit`).
+use Rattle.std.proofs.Common.{◌≡◌, ℕ, zero, suc, ◌+◌, ◌-◌, ◌^◌, ◌<◌, ◌≤◌, List, [], ◌∷◌, ◌++◌, length, get_or, slice_index, refl, sym, ap, ap₂, ◌∙◌, subst, arith}
 use Rattle.std.specs.List.{AllByRecursion, Contains, flat_map}
+use Rattle.std.proofs.lemmas.Nat.{pow_pos}
 use Rattle.std.proofs.lemmas.List.Elements.{Contains-append_left, Contains-append_right}
 use Rattle.p3l_skel.specs.declared.tree.Form.{Form}
 use Rattle.p3l_skel.specs.declared.tree.Form.TheVariants.{Seq, Comp, Pipe, Farm, Map, Reduce, Loop}
+use Rattle.p3l_skel.specs.declared.tree.Node.{Node}
 use Rattle.p3l_skel.specs.declared.tree.Tree.{Tree}
 use Rattle.p3l_skel.specs.Counts.{IsLawfulCount, HasLawfulCounts, counted, counted_from, count_of, outside_parts, own_counted}
 use Rattle.p3l_skel.specs.Lawful.{AreSubtrees, IsSubtree, IsLawfulForm, IsLawfulTree}
 use Rattle.p3l_skel.specs.Tree.{node_at, part_at, nesting}
 use Rattle.p3l_skel.proofs.Below.{counted_from-step}
-use Rattle.p3l_skel.proofs.Depth.{lawful_at}
+use Rattle.p3l_skel.proofs.Depth.{IsSubtree-grows, lawful_at, subtree_at}
+use Rattle.p3l_skel.proofs.Subtrees.{IsSubtree-step}
 use Rattle.p3l_model.proofs.Count.{count_lawful}
 use Rattle.p3l_model.proofs.Members.{Contains-head}
 use Rattle.p3l_firing.specs.Segments.{level_of}
 use Rattle.p3l_template.specs.Placed.{IsLawfulShape}
 use Rattle.p3l_template.specs.Shape.{Base, no_seat, fan_seats}
-use Rattle.p3l_template.specs.laws.RunLaw.{run_lawful}
-use Rattle.p3l_template.specs.laws.PipeLaw.{pipe_lawful}
 use Rattle.p3l_template.specs.laws.PipeTyping.{stages_length, stage_part}
-use Rattle.p3l_farm.specs.laws.FarmLaw.{farm_lawful}
-use Rattle.p3l_map.specs.laws.MapLaw.{map_lawful}
 use Rattle.p3l_reduce.specs.Reduce.{reduce_shape}
-use Rattle.p3l_reduce.specs.laws.ReduceLaw.{reduce_lawful}
-use Rattle.p3l_loop.specs.laws.LoopLaw.{loop_lawful}
 use Rattle.p3l_link.specs.Counts.{HasOwnCount, IsCounted}
-use Rattle.p3l_link.specs.Shape.{shape_row, shape_at, seat_part}
+use Rattle.p3l_link.specs.Node.{IsFit}
+use Rattle.p3l_link.specs.Shape.{kind_at, kind_row, shape_at, shape_row, template_at, template_row}
+use Rattle.p3l_link.specs.NodeLaw.{kind_lawful}
 
 -- a node's own number is lawful, if those of all counted nodes in the list that begins with it are
 own_count : (f : Form) (k n : ℕ) → (Contains (own_counted f k) k → IsLawfulCount f n) → HasOwnCount f n
@@ -112,28 +111,76 @@ unfolding IsCounted
 counted_deep tree count zero k h = absurd h
 counted_deep tree count (suc d) k h = omega arith
 
--- each row of the table is a lawful template
+-- the numbers of each row of the table are in range
+row_fit : (tree : Tree) (f : Form) (ins outs : ℕ) (ps : List ℕ) (k n : ℕ) → IsLawfulForm tree f ins outs ps →
+    HasOwnCount f n → IsFit (template_row f k (length ps) n)
+row_fit tree Seq ins outs ps k n lawful own = tt
+row_fit tree Comp ins outs ps k n lawful own = tt
+row_fit tree Pipe ins outs ps k n lawful own = lawful.0
+row_fit tree (Farm w) ins outs ps k n lawful own = own.1.0
+row_fit tree (Map w cut) ins outs ps k n lawful own = own.1.0
+row_fit tree (Reduce w len elem) ins outs ps k n lawful own =
+    let some : 1 ≤ 2 ^ own.1.0.0 = pow_pos own.1.0.0 in omega (arith, some, own.1.0.1)
+row_fit tree (Loop turns tokens) ins outs [] k n lawful own = absurd lawful
+row_fit tree (Loop turns tokens) ins outs (b ∷ []) k n lawful own = absurd lawful
+row_fit tree (Loop turns tokens) ins outs (b ∷ (c ∷ [])) k n lawful own = lawful.limits.some_tokens
+row_fit tree (Loop turns tokens) ins outs (b ∷ (c ∷ (x ∷ ps))) k n lawful own = absurd lawful
+
+-- so each is a lawful template
 pub row_lawful : (tree : Tree) (f : Form) (ins outs : ℕ) (ps : List ℕ) (k n : ℕ) → IsLawfulForm tree f ins outs ps →
     HasOwnCount f n → IsLawfulShape (shape_row f k (length ps) n)
-unfolding shape_row
-row_lawful tree Seq ins outs ps k n lawful own = run_lawful k
-row_lawful tree Comp ins outs ps k n lawful own = run_lawful k
-row_lawful tree Pipe ins outs ps k n lawful own = pipe_lawful (length ps - 1)
-row_lawful tree (Farm w) ins outs ps k n lawful own = farm_lawful k n (own.1.0)
-row_lawful tree (Map w cut) ins outs ps k n lawful own = map_lawful k n (own.1.0)
-row_lawful tree (Reduce w len elem) ins outs ps k n lawful own = reduce_lawful k len (level_of n)
-row_lawful tree (Loop turns tokens) ins outs [] k n lawful own = absurd lawful
-row_lawful tree (Loop turns tokens) ins outs (b ∷ []) k n lawful own = absurd lawful
-row_lawful tree (Loop turns tokens) ins outs (b ∷ (c ∷ [])) k n lawful own = loop_lawful k tokens lawful.limits.some_tokens
-row_lawful tree (Loop turns tokens) ins outs (b ∷ (c ∷ (x ∷ ps))) k n lawful own = absurd lawful
+unfolding kind_row
+row_lawful tree f ins outs ps k n lawful own =
+    kind_lawful (template_row f k (length ps) n) (row_fit tree f ins outs ps k n lawful own)
 
-pub shape_lawful : (tree : Tree) (count : ℕ → ℕ) (k : ℕ) → IsLawfulTree tree → k < length tree.nodes →
-    HasOwnCount (node_at tree k).form (count k) → IsLawfulShape (shape_at tree count k)
-unfolding shape_at
-shape_lawful tree count k lawful there own =
-    let node = lawful_at tree lawful k there in
-    row_lawful tree (node_at tree k).form (node_at tree k).ins (node_at tree k).outs (node_at tree k).parts k (count k)
-    node.form own
+module _ (tree : Tree) (count : ℕ → ℕ) (k : ℕ) (lawful : IsLawfulTree tree) (there : k < length tree.nodes)
+    (own : HasOwnCount (node_at tree k).form (count k)) where
+  pub template_fit : IsFit (template_at tree count k)
+  template_fit =
+      let node = lawful_at tree lawful k there in
+      row_fit tree (node_at tree k).form (node_at tree k).ins (node_at tree k).outs (node_at tree k).parts k (count k)
+      node.form own
+
+  pub shape_lawful : IsLawfulShape (shape_at tree count k)
+  unfolding kind_at
+  shape_lawful =
+      let node = lawful_at tree lawful k there in
+      row_lawful tree (node_at tree k).form (node_at tree k).ins (node_at tree k).outs (node_at tree k).parts k (count k)
+      node.form own
+
+-- the row of a node that was found
+pub row_at : (tree : Tree) (count : ℕ → ℕ) (k : ℕ) (node : Node) → node ≡ node_at tree k → (parts n : ℕ) → parts ≡ length node.parts →
+    n ≡ count k → template_row node.form k parts n ≡ template_at tree count k
+row_at tree count k node found parts n long many =
+    ap₂ (template_row node.form k) long many ∙ ap (λ (z : Node). template_row z.form k (length z.parts) (count k)) found
+
+-- parts that follow one another end in the tree, and are no more than the nodes that they have
+parts_end : (d : ℕ) (tree : Tree) → ((k next : ℕ) → IsSubtree d tree k next → next ≤ length tree.nodes) → (ps : List ℕ) (from next : ℕ) →
+    from ≤ length tree.nodes → AreSubtrees (IsSubtree d tree) ps from next → next ≤ length tree.nodes
+parts_end d tree each [] from next l are = omega (arith, are, l)
+parts_end d tree each (p ∷ ps) from next l are = parts_end d tree each ps are.1.0 next (each p are.1.0 are.1.1) are.1.2
+
+subtree_ends : (d : ℕ) (tree : Tree) (k next : ℕ) → IsSubtree d tree k next → next ≤ length tree.nodes
+unfolding IsSubtree
+subtree_ends zero tree k next h = absurd h
+subtree_ends (suc d) tree k next h =
+    parts_end d tree (subtree_ends d tree) (node_at tree k).parts (k + 1) next (omega (arith, h.0)) h.1
+
+parts_few : (d : ℕ) (tree : Tree) (ps : List ℕ) (from next : ℕ) → AreSubtrees (IsSubtree d tree) ps from next → from + length ps ≤ next
+parts_few d tree [] from next are = omega (arith, are)
+parts_few d tree (p ∷ ps) from next are =
+    let grows : p < are.1.0 = IsSubtree-grows d tree p are.1.0 are.1.1 in
+    let rest : are.1.0 + length ps ≤ next = parts_few d tree ps are.1.0 next are.1.2 in
+    omega (arith, are.0, grows, rest)
+
+-- a node of a lawful tree has few parts
+pub few_parts : (tree : Tree) (k : ℕ) → IsLawfulTree tree → k < length tree.nodes → length (node_at tree k).parts < 128
+few_parts tree k lawful there =
+    let is = subtree_at tree lawful k there in
+    let ends = subtree_ends nesting tree k is.0 is.1 in
+    let step = IsSubtree-step nesting tree k is.0 (omega arith) in
+    let few = parts_few 5 tree (node_at tree k).parts (k + 1) is.0 (step.0 is.1).1 in
+    omega (arith, few, ends, lawful.few_nodes)
 
 fan_part : (i o n v : ℕ) → (get_or (fan_seats i o n) v no_seat).part ≡ 0
 unfolding fan_seats no_seat
@@ -151,47 +198,41 @@ unfolding reduce_shape
 no_seats k len zero base = refl
 no_seats k len (suc d) base = refl
 
--- the part at a seat is the one that the form says, and it is one of those outside
--- units
+-- the part at a seat is one of those outside units
 row_seat : (tree : Tree) (f : Form) (ins outs : ℕ) (ps : List ℕ) (k n : ℕ) (base : Base) (v : ℕ) →
     IsLawfulForm tree f ins outs ps → v < length ((shape_row f k (length ps) n).seats base) →
-    ((get_or ((shape_row f k (length ps) n).seats base) v no_seat).part ≡ seat_part f v)
-    × ((P : ℕ → Type 0) → AllByRecursion P (outside_parts f ps) → P (slice_index ps (seat_part f v)))
-unfolding shape_row
-row_seat tree Seq ins outs ps k n base v lawful l = absurd (omega arith)
-row_seat tree Comp ins outs ps k n base v lawful l = absurd (omega arith)
-row_seat tree Pipe ins outs ps k n base v lawful l =
-    let j : v < suc (length ps - 1) = omega (arith, l, stages_length 0 base.input base.chan base.output (length ps - 1)) in (
-      stage_part 0 base.input base.chan base.output (length ps - 1) v j ∙ omega arith,
-      λ P all. all_at P ps v all (omega (arith, j, lawful.0)),
-    )
-row_seat tree (Farm w) ins outs [] k n base v lawful l = absurd lawful
-row_seat tree (Farm w) ins outs (p ∷ []) k n base v lawful l = (fan_part base.chan (base.chan + n) n v, λ P all. all.0)
-row_seat tree (Farm w) ins outs (p ∷ (q ∷ ps)) k n base v lawful l = absurd lawful
-row_seat tree (Map w cut) ins outs [] k n base v lawful l = absurd lawful
-row_seat tree (Map w cut) ins outs (p ∷ []) k n base v lawful l = (fan_part base.chan (base.chan + n) n v, λ P all. all.0)
-row_seat tree (Map w cut) ins outs (p ∷ (q ∷ ps)) k n base v lawful l = absurd lawful
-row_seat tree (Reduce w len elem) ins outs ps k n base v lawful l =
+    (P : ℕ → Type 0) → AllByRecursion P (outside_parts f ps) →
+    P (slice_index ps (get_or ((shape_row f k (length ps) n).seats base) v no_seat).part)
+unfolding kind_row
+row_seat tree Seq ins outs ps k n base v lawful l P all = absurd (omega arith)
+row_seat tree Comp ins outs ps k n base v lawful l P all = absurd (omega arith)
+row_seat tree Pipe ins outs ps k n base v lawful l P all =
+    let j : v < suc (length ps - 1) = omega (arith, l, stages_length 0 base.input base.chan base.output (length ps - 1)) in
+    let is : (get_or ((shape_row Pipe k (length ps) n).seats base) v no_seat).part ≡ v =
+    stage_part 0 base.input base.chan base.output (length ps - 1) v j ∙ omega arith in
+    subst (λ z. P (slice_index ps z)) (sym is) (all_at P ps v all (omega (arith, j, lawful.0)))
+row_seat tree (Farm w) ins outs [] k n base v lawful l P all = absurd lawful
+row_seat tree (Farm w) ins outs (p ∷ []) k n base v lawful l P all =
+    subst (λ z. P (slice_index (p ∷ []) z)) (sym (fan_part base.chan (base.chan + n) n v)) all.0
+row_seat tree (Farm w) ins outs (p ∷ (q ∷ ps)) k n base v lawful l P all = absurd lawful
+row_seat tree (Map w cut) ins outs [] k n base v lawful l P all = absurd lawful
+row_seat tree (Map w cut) ins outs (p ∷ []) k n base v lawful l P all =
+    subst (λ z. P (slice_index (p ∷ []) z)) (sym (fan_part base.chan (base.chan + n) n v)) all.0
+row_seat tree (Map w cut) ins outs (p ∷ (q ∷ ps)) k n base v lawful l P all = absurd lawful
+row_seat tree (Reduce w len elem) ins outs ps k n base v lawful l P all =
     absurd (omega (arith, l, ap length (no_seats k len (level_of n) base)))
-row_seat tree (Loop turns tokens) ins outs [] k n base v lawful l = absurd lawful
-row_seat tree (Loop turns tokens) ins outs (b ∷ []) k n base v lawful l = absurd lawful
-row_seat tree (Loop turns tokens) ins outs (b ∷ (c ∷ [])) k n base zero lawful l = (refl, λ P all. all.0)
-row_seat tree (Loop turns tokens) ins outs (b ∷ (c ∷ [])) k n base (suc v) lawful l = absurd (omega arith)
-row_seat tree (Loop turns tokens) ins outs (b ∷ (c ∷ (x ∷ ps))) k n base v lawful l = absurd lawful
+row_seat tree (Loop turns tokens) ins outs [] k n base v lawful l P all = absurd lawful
+row_seat tree (Loop turns tokens) ins outs (b ∷ []) k n base v lawful l P all = absurd lawful
+row_seat tree (Loop turns tokens) ins outs (b ∷ (c ∷ [])) k n base zero lawful l P all = all.0
+row_seat tree (Loop turns tokens) ins outs (b ∷ (c ∷ [])) k n base (suc v) lawful l P all = absurd (omega arith)
+row_seat tree (Loop turns tokens) ins outs (b ∷ (c ∷ (x ∷ ps))) k n base v lawful l P all = absurd lawful
 
 module _ (tree : Tree) (count : ℕ → ℕ) (k : ℕ) (lawful : IsLawfulTree tree) (there : k < length tree.nodes) (base : Base)
     (v : ℕ) (seat : v < length ((shape_at tree count k).seats base)) where
-  pub seat_is : (get_or ((shape_at tree count k).seats base) v no_seat).part ≡ seat_part (node_at tree k).form v
-  unfolding shape_at
-  seat_is =
-      let node = node_at tree k in
-      (row_seat tree node.form node.ins node.outs node.parts k (count k) base v (lawful_at tree lawful k there).form seat).0
-
   pub seat_counted : (d : ℕ) → IsCounted tree count (suc d) k →
       IsCounted tree count d (part_at tree k (get_or ((shape_at tree count k).seats base) v no_seat).part)
-  unfolding shape_at IsCounted
+  unfolding kind_at IsCounted
   seat_counted d h =
       let node = node_at tree k in
-      let found = row_seat tree node.form node.ins node.outs node.parts k (count k) base v (lawful_at tree lawful k there).form
-      seat in
-      subst (λ j. IsCounted tree count d (part_at tree k j)) (sym found.0) (found.1 (IsCounted tree count d) h.2)
+      row_seat tree node.form node.ins node.outs node.parts k (count k) base v (lawful_at tree lawful k there).form seat
+      (IsCounted tree count d) h.2

@@ -6,8 +6,8 @@ use Rattle.p3l_template.specs.Pipe.{stage_seats}
 use Rattle.p3l_template.specs.Shape.{numbers_from, fan_seats}
 use Rattle.p3l_link.specs.Examples.{HandValues}
 use Rattle.p3l_link.specs.Net.{inner_pieces, piece_of, root_piece, linked_net}
-use Rattle.p3l_link.specs.Shape.{shape_row, shape_at}
+use Rattle.p3l_link.specs.Shape.{kind_at, kind_row}
 
 pub hand_values : HandValues
-unfolding linked_net root_piece piece_of inner_pieces shape_at shape_row by_parts counted_from seq_tree stage_seats numbers_from fan_seats
+unfolding linked_net root_piece piece_of inner_pieces kind_at kind_row by_parts counted_from seq_tree stage_seats numbers_from fan_seats
 hand_values = record { one_process = refl; a_farm_of_five = refl }

@@ -1,4 +1,5 @@
 mod Hand
+pub mod AnyKind
 pub mod Counted
 pub mod Placing
 pub mod Size

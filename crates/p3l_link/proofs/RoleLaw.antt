@@ -28,7 +28,7 @@ use Rattle.p3l_loop.specs.Loop.{loop_firings}
 use Rattle.p3l_link.specs.Counts.{HasOwnCount, IsCounted}
 use Rattle.p3l_link.specs.Means.{Means}
 use Rattle.p3l_link.specs.Part.{role_of}
-use Rattle.p3l_link.specs.Shape.{shape_row, shape_at}
+use Rattle.p3l_link.specs.Shape.{kind_at, kind_row, shape_row}
 use Rattle.p3l_link.proofs.NodeMeaning.{form_at, run_means, farm_means}
 use Rattle.p3l_link.proofs.PipeMeaning.{pipe_means, pipe_fires}
 use Rattle.p3l_link.proofs.MapMeaning.{map_means, count_is}
@@ -116,7 +116,7 @@ module _ (units : Units) (lawful : IsLawfulTree units.tree) (count : ℕ → ℕ
   row_means : GivesOuts units.tree units.leaf → (f : Form) → (node_at units.tree k).form ≡ f → HasOwnCount f (count k) →
       AllByRecursion Meant (outside_parts f parts) →
       Means units k ((shape_row f k (length parts) (count k)).meaning units roles)
-  unfolding shape_row
+  unfolding kind_row
   row_means gives Seq is own all = run_means units lawful k inside
   row_means gives Comp is own all = run_means units lawful k inside
   row_means gives Pipe is own all =
@@ -143,7 +143,7 @@ module _ (units : Units) (lawful : IsLawfulTree units.tree) (count : ℕ → ℕ
       AllByRecursion Fires (outside_parts f parts) →
       (shape_row f k (length parts) (count k)).firings units roles
       ≡ firings_row joined_firings f (count k) (sum_by below (outside_parts f parts))
-  unfolding shape_row
+  unfolding kind_row
   row_fires Seq is own all = refl
   row_fires Comp is own all = refl
   row_fires Pipe is own all =
@@ -171,7 +171,7 @@ module _ (units : Units) (lawful : IsLawfulTree units.tree) (count : ℕ → ℕ
   -- what a node's role says is what the node means
   pub role_means : GivesOuts units.tree units.leaf → (d k : ℕ) → IsCounted units.tree count d k →
       Means units k (role_of units count d k).meaning
-  unfolding role_of IsCounted shape_at
+  unfolding role_of IsCounted kind_at
   role_means gives zero k counted = absurd counted
   role_means gives (suc d) k counted =
       row_means units lawful count d k counted.0 gives (node_at units.tree k).form refl counted.1
@@ -181,7 +181,7 @@ module _ (units : Units) (lawful : IsLawfulTree units.tree) (count : ℕ → ℕ
   -- how often it says that the node fires is the node's number
   pub role_fires : (d k : ℕ) → IsCounted units.tree count d k →
       (role_of units count d k).firings ≡ firings_by joined_firings units.tree count d k
-  unfolding role_of IsCounted shape_at
+  unfolding role_of IsCounted kind_at
   role_fires zero k counted = absurd counted
   role_fires (suc d) k counted =
       let e : suc d - 1 ≡ d = omega arith in

@@ -24,7 +24,7 @@ use Rattle.p3l_reduce.specs.laws.ReduceLaw.{joins_length, lengths_length}
 use Rattle.p3l_reduce.specs.laws.ReduceTyping.{level_exact}
 use Rattle.p3l_link.specs.Counts.{HasOwnCount, IsCounted}
 use Rattle.p3l_link.specs.Net.{Piece, HasRoom, base_at, end_net, inner_pieces, linked_net, piece_of, root_base, root_piece, whole_piece}
-use Rattle.p3l_link.specs.Shape.{shape_at, shape_row}
+use Rattle.p3l_link.specs.Shape.{kind_at, kind_row, shape_row}
 use Rattle.p3l_link.proofs.Counted.{root_counted, row_lawful, seat_counted}
 
 pub record IsSizedPiece (F : Piece) (n : ℕ) : Type 0 where
@@ -135,7 +135,7 @@ module _ (tree : Tree) (ins outs k n cap : ℕ) (below : ℕ → ℕ) (f : ℕ �
       (below (slice_index ps (get_or ((shape_row form k (length ps) n).seats base) v no_seat).part))) →
       IsSizedPiece (whole_piece (shape_row form k (length ps) n) cap f base)
       (procs_row form n (sum_by below (outside_parts form ps)))
-  unfolding shape_row seats_sum
+  unfolding kind_row seats_sum
   row_size Seq ps lawful own each =
       whole_size (shape_row Seq k (length ps) n) (row_lawful tree Seq ins outs ps k n lawful own) cap f
       (λ v. below (slice_index ps v)) base 1 each refl (omega arith)
@@ -185,7 +185,7 @@ module _ (tree : Tree) (ins outs k n cap : ℕ) (below : ℕ → ℕ) (f : ℕ �
 
 pub piece_sized : (tree : Tree) (count : ℕ → ℕ) (cap d k : ℕ) (base : Base) → IsLawfulTree tree → IsCounted tree count d k →
     IsSizedPiece (piece_of tree count cap d k base) (procs_by tree count d k)
-unfolding piece_of shape_at IsCounted
+unfolding piece_of kind_at IsCounted
 piece_sized tree count cap zero k base lawful h = absurd h
 piece_sized tree count cap (suc d) k base lawful h =
     let some : 0 < suc d = omega arith in

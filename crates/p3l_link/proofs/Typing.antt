@@ -7,8 +7,6 @@ use Rattle.std.specs.List.{AllByRecursion}
 use Rattle.std.specs.Option.{option_map}
 use Rattle.std.proofs.lemmas.Bool.{cases_lt}
 use Rattle.std.proofs.lemmas.Bool.Decides.{nat_tests}
-use Rattle.std.proofs.lemmas.Grind.{flat_map-append}
-use Rattle.std.proofs.lemmas.List.{get_or-append-add, get_or_append_left}
 use Rattle.p3l_skel.specs.declared.tree.Form.{Form}
 use Rattle.p3l_skel.specs.declared.tree.Form.TheVariants.{Seq, Comp, Pipe, Farm, Map, Reduce, Loop}
 use Rattle.p3l_skel.specs.declared.tree.Tree.{Tree}
@@ -24,24 +22,21 @@ use Rattle.p3l_firing.specs.declared.process.ProcKind.{ProcKind}
 use Rattle.p3l_firing.specs.declared.process.ProcKind.TheVariants.{Source, Sink}
 use Rattle.p3l_firing.specs.Process.{all_ins, all_outs, kind_at, times}
 use Rattle.p3l_firing.specs.Single.{the_source, the_sink}
-use Rattle.p3l_firing.specs.State.{no_chan}
 use Rattle.p3l_firing.specs.Token.{most_tags}
 use Rattle.p3l_firing.specs.Typed.{FitsChannel, FitsKind, IsTyped}
 use Rattle.p3l_firing.specs.Widths.{Widths, Carries}
 use Rattle.p3l_firing.specs.kinds.Run.{Takes}
 use Rattle.p3l_template.specs.Placed.{IsLawfulShape}
 use Rattle.p3l_template.specs.Shape.{Base, Seat, Shape, no_seat, numbers_from}
-use Rattle.p3l_template.specs.Typing.{Carry, IsInner, IsTypedShape, SeatFits, StandsTyped, Width, no_width, seat_ins, seat_outs}
-use Rattle.p3l_template.specs.laws.PipeTyping.{pipe_serves}
-use Rattle.p3l_template.specs.laws.RunTyping.{run_typed}
-use Rattle.p3l_template.specs.laws.TimesLaw.{numbers_append, times_append, times_cons}
-use Rattle.p3l_farm.specs.laws.FarmTyping.{farm_serves}
-use Rattle.p3l_map.specs.laws.MapTyping.{map_serves}
-use Rattle.p3l_reduce.specs.laws.ReduceTyping.{reduce_serves}
-use Rattle.p3l_loop.specs.laws.LoopTyping.{loop_serves}
+use Rattle.p3l_template.specs.Typing.{Carry, IsInner, IsTypedShape, SeatFits, StandsTyped}
+use Rattle.p3l_template.specs.Width.{no_width}
+use Rattle.p3l_template.specs.declared.width.Width.{Width}
+use Rattle.p3l_template.specs.laws.TimesLaw.{times_cons}
 use Rattle.p3l_link.specs.Counts.{HasOwnCount, IsCounted}
 use Rattle.p3l_link.specs.Net.{Piece, base_at, end_net, inner_pieces, linked_net, piece_of, root_base, root_piece, whole_piece, with_piece}
-use Rattle.p3l_link.specs.Shape.{shape_at, shape_row}
+use Rattle.p3l_link.specs.Node.{Serves}
+use Rattle.p3l_link.specs.Shape.{kind_at as node_kind, kind_row, shape_at, template_at, template_row}
+use Rattle.p3l_link.specs.NodeLaw.{kind_counted, kind_typed}
 use Rattle.p3l_link.proofs.Counted.{root_counted, seat_counted, shape_lawful}
 use Rattle.p3l_link.proofs.Once.{HasOnce, HaveOnce, inner_once, whole_once}
 use Rattle.p3l_link.proofs.Size.{root_sized}
@@ -60,48 +55,47 @@ two_parts P (p ∷ []) h = absurd h
 two_parts P (p ∷ (q ∷ [])) h = h
 two_parts P (p ∷ (q ∷ (r ∷ ps))) h = absurd h
 
--- each row of the table is typed for the nodes of its form
-row_typed : (tree : Tree) (k n : ℕ) (f : Form) → k < length tree.nodes → (node_at tree k).form ≡ f →
+-- each row of the table is made for the nodes of its form
+row_serves : (tree : Tree) (k n : ℕ) (f : Form) → k < length tree.nodes → (node_at tree k).form ≡ f →
     IsLawfulForm tree f (node_at tree k).ins (node_at tree k).outs (node_at tree k).parts → HasOwnCount f n →
-    IsTypedShape tree k (shape_row f k (length (node_at tree k).parts) n)
-unfolding shape_row
-row_typed tree k n Seq there is lawful own =
-    run_typed tree k (record {
-      there = there;
-      takes = subst (λ f. Takes f (node_at tree k).ins 0 (node_at tree k).ins) (sym is) (refl, refl);
-    })
-row_typed tree k n Comp there is lawful own =
-    run_typed tree k (record {
-      there = there;
-      takes = subst (λ f. Takes f (node_at tree k).ins 0 (node_at tree k).ins) (sym is) (refl, refl);
-    })
-row_typed tree k n Pipe there is lawful own =
-    pipe_serves tree (length (node_at tree k).parts) k (record { some = lawful.0; parts = refl; chain = lawful.1 })
-row_typed tree k n (Farm w) there is lawful own =
-    farm_serves tree k k n (
-      refl,
-      record {
-        there = there;
-        clause = w;
-        form = is;
-        count = subst (λ f. IsLawfulCount f n) (sym is) own;
-        part = one_part _ (node_at tree k).parts lawful;
-      },
-    )
-row_typed tree k n (Map w cut) there is lawful own =
-    map_serves tree k k n (
-      refl,
-      record {
-        there = there;
-        clause = w;
-        cut = cut;
-        form = is;
-        count = subst (λ f. IsLawfulCount f n) (sym is) own;
-      },
-    )
-row_typed tree k n (Reduce w len elem) there is lawful own =
-    let part = one_part _ (node_at tree k).parts lawful in
-    reduce_serves tree k k n len (
+    Serves (template_row f k (length (node_at tree k).parts) n) tree k
+row_serves tree k n Seq there is lawful own = (
+  refl,
+  record {
+    there = there;
+    takes = subst (λ f. Takes f (node_at tree k).ins 0 (node_at tree k).ins) (sym is) (refl, refl);
+  },
+)
+row_serves tree k n Comp there is lawful own = (
+  refl,
+  record {
+    there = there;
+    takes = subst (λ f. Takes f (node_at tree k).ins 0 (node_at tree k).ins) (sym is) (refl, refl);
+  },
+)
+row_serves tree k n Pipe there is lawful own = record { some = lawful.0; parts = refl; chain = lawful.1 }
+row_serves tree k n (Farm w) there is lawful own = (
+  refl,
+  record {
+    there = there;
+    clause = w;
+    form = is;
+    count = subst (λ f. IsLawfulCount f n) (sym is) own;
+    part = one_part _ (node_at tree k).parts lawful;
+  },
+)
+row_serves tree k n (Map w cut) there is lawful own = (
+  refl,
+  record {
+    there = there;
+    clause = w;
+    cut = cut;
+    form = is;
+    count = subst (λ f. IsLawfulCount f n) (sym is) own;
+  },
+)
+row_serves tree k n (Reduce w len elem) there is lawful own =
+    let part = one_part _ (node_at tree k).parts lawful in (
       refl,
       record {
         there = there;
@@ -112,9 +106,8 @@ row_typed tree k n (Reduce w len elem) there is lawful own =
         result = part.result;
       },
     )
-row_typed tree k n (Loop turns tokens) there is lawful own =
-    let parts = two_parts _ (node_at tree k).parts lawful in
-    loop_serves tree k k tokens (
+row_serves tree k n (Loop turns tokens) there is lawful own =
+    let parts = two_parts _ (node_at tree k).parts lawful in (
       refl,
       record {
         there = there;
@@ -126,11 +119,20 @@ row_typed tree k n (Loop turns tokens) there is lawful own =
       },
     )
 
-pub shape_typed : (tree : Tree) (count : ℕ → ℕ) (k : ℕ) → IsLawfulTree tree → k < length tree.nodes →
-    HasOwnCount (node_at tree k).form (count k) → IsTypedShape tree k (shape_at tree count k)
-unfolding shape_at
-shape_typed tree count k lawful there own =
-    row_typed tree k (count k) (node_at tree k).form there refl (lawful_at tree lawful k there).form own
+module _ (tree : Tree) (count : ℕ → ℕ) (k : ℕ) (lawful : IsLawfulTree tree) (there : k < length tree.nodes)
+    (own : HasOwnCount (node_at tree k).form (count k)) where
+  pub template_serves : Serves (template_at tree count k) tree k
+  template_serves = row_serves tree k (count k) (node_at tree k).form there refl (lawful_at tree lawful k there).form own
+
+  -- so each is typed
+  pub shape_typed : IsTypedShape tree k (shape_at tree count k)
+  unfolding node_kind kind_row
+  shape_typed = kind_typed (template_at tree count k) tree k template_serves
+
+  -- and has a width for each of its own channels
+  pub widths_counted : (t : ℕ) (base : Base) → length ((node_kind tree count k).widths tree k t) ≡ (shape_at tree count k).chans base
+  unfolding node_kind kind_row
+  widths_counted t base = kind_counted (template_at tree count k) tree k t base template_serves
 
 -- ROWS OF WIDTHS
 

@@ -1,18 +1,17 @@
 -- The walk over the seats of a node that can be placed, by the lemmas of Placing.
-use Rattle.std.proofs.Common.{◌≡◌, ℕ, suc, ◌+◌, ◌-◌, ◌<◌, ◌≤◌, List, length, get_or, slice_index, drop, sym, ap, ap₂, ◌∙◌, subst, arith, length-append}
-use Rattle.std.proofs.lemmas.List.{get_or-map, length-map}
+use Rattle.std.proofs.Common.{◌≡◌, ℕ, suc, ◌+◌, ◌-◌, ◌<◌, ◌≤◌, List, length, get_or, drop, sym, ap, ap₂, ◌∙◌, subst, arith, length-append}
+use Rattle.std.proofs.lemmas.List.{get_or_default}
 use Rattle.p3l_skel.specs.declared.tree.Tree.{Tree}
 use Rattle.p3l_skel.specs.Lawful.{IsLawfulTree}
-use Rattle.p3l_skel.specs.Tree.{node_at, part_at}
+use Rattle.p3l_skel.specs.Tree.{part_at}
 use Rattle.p3l_firing.specs.declared.net.Net.{Net}
 use Rattle.p3l_template.specs.declared.template.Ports.{Ports}
-use Rattle.p3l_template.specs.Built.{all_ports}
 use Rattle.p3l_template.specs.Placed.{IsLawfulShape}
-use Rattle.p3l_template.specs.Shape.{Base, Seat, base_of, no_seat, ports_of}
+use Rattle.p3l_template.specs.Shape.{Base, HasRoomFor, Seat, base_of, no_seat, ports_of}
 use Rattle.p3l_link.specs.Counts.{IsCounted}
 use Rattle.p3l_link.specs.Net.{Piece, HasRoom, base_at, inner_pieces, own_piece, part_piece, piece_of, whole_piece, with_piece}
-use Rattle.p3l_link.specs.Shape.{shape_at, seat_part}
-use Rattle.p3l_link.proofs.Counted.{counted_deep, counted_own, counted_there, seat_counted, seat_is, shape_lawful}
+use Rattle.p3l_link.specs.Shape.{shape_at}
+use Rattle.p3l_link.proofs.Counted.{counted_deep, counted_own, counted_there, seat_counted, shape_lawful}
 use Rattle.p3l_link.proofs.Placing.{end_built, init_built, next_built, piece_step, room_built}
 
 module _ (tree : Tree) (count : ℕ → ℕ) (cap levels k : ℕ) (lawful : IsLawfulTree tree)
@@ -39,14 +38,17 @@ module _ (tree : Tree) (count : ℕ → ℕ) (cap levels k : ℕ) (lawful : IsLa
   whole_is = piece_step tree count cap levels k (base_of at b0) (counted_deep tree count levels k counted)
 
   -- there is room for the node's own processes and channels
-  pub own_room : HasRoom b0 whole → HasRoom b0 own
+  pub own_room : HasRoom b0 whole → HasRoomFor b0 (length ((shape_at tree count k).procs (base_of at b0)))
+      ((shape_at tree count k).chans (base_of at b0))
   own_room room =
       let rest : Piece = inner_pieces parts seats (length b0.procs + length own.procs)
       (length b0.chans + (shape_at tree count k).chans (base_of at b0)) in
       let procs = ap (λ (z : Piece). length z.procs) whole_is in
-      let chans = ap (λ (z : Piece). length z.chans) whole_is in (
+      let chans = ap (λ (z : Piece). length z.chans) whole_is in
+      let lw = law in
+      let laid = lw.laid cap (base_of at b0) in (
         omega (arith, room.0, procs, length-append own.procs rest.procs),
-        omega (arith, room.1, chans, length-append own.chans rest.chans),
+        omega (arith, room.1, chans, laid, length-append own.chans rest.chans),
       )
 
   pub begun : (b : Net) → b ≡ with_piece b0 own →
@@ -60,24 +62,27 @@ module _ (tree : Tree) (count : ℕ → ℕ) (cap levels k : ℕ) (lawful : IsLa
   IsBuilt b i =
       with_piece b (inner_pieces parts (drop i seats) (length b.procs) (length b.chans)) ≡ with_piece b0 whole
 
-  module _ (items : List Ports) (items_are : items ≡ all_ports seats) (b : Net) (i : ℕ) (built : IsBuilt b i) where
+  module _ (items : List Seat) (items_are : items ≡ seats) (b : Net) (i : ℕ) (built : IsBuilt b i) where
     seats_length : length items ≡ length seats
-    seats_length = ap length items_are ∙ length-map seats ports_of
+    seats_length = ap length items_are
 
     pub ended : length items ≤ i → b ≡ with_piece b0 whole
     ended l = end_built parts seats b (with_piece b0 whole) i built (omega (arith, l, seats_length))
 
-    module _ (l : i < length items) (part : ℕ)
-        (part_is : part ≡ slice_index (node_at tree k).parts (seat_part (node_at tree k).form i)) where
+    -- the part that was found at the next seat
+    module _ (l : i < length items) (x y : Seat) (same : x ≡ y) (found : y ≡ get_or items i y) (part : ℕ)
+        (part_is : part ≡ part_at tree k x.part) where
       abbrev seat : Seat
       seat = get_or seats i no_seat
 
       below : i < length seats
       below = omega (arith, l, seats_length)
 
+      seat_is : x ≡ seat
+      seat_is = same ∙ found ∙ ap (λ xs. get_or xs i y) items_are ∙ get_or_default seats i y no_seat below
+
       part_there : part ≡ part_at tree k seat.part
-      part_there =
-          part_is ∙ ap (slice_index (node_at tree k).parts) (sym (seat_is tree count k lawful there (base_of at b0) i below))
+      part_there = part_is ∙ ap (λ (z : Seat). part_at tree k z.part) seat_is
 
       pub part_counted : IsCounted tree count (levels - 1) part
       part_counted =
@@ -87,24 +92,19 @@ module _ (tree : Tree) (count : ℕ → ℕ) (cap levels k : ℕ) (lawful : IsLa
           (seat_counted tree count k lawful there (base_of at b0) i below (levels - 1)
           (subst (λ d. IsCounted tree count d k) e counted))
 
-      module _ (none : Ports) where
-        port_is : get_or items i none ≡ ports_of seat
-        port_is = ap (λ xs. get_or xs i none) items_are ∙ get_or-map ports_of seats i no_seat none below
+      abbrev here : Piece
+      here = piece_of tree count cap (levels - 1) part (base_of (ports_of x) b)
 
-        abbrev here : Piece
-        here = piece_of tree count cap (levels - 1) part (base_of (get_or items i none) b)
+      here_is : here ≡ parts seat.part (base_at seat (length b.procs) (length b.chans))
+      here_is = ap₂ (λ n (z : Seat). piece_of tree count cap (levels - 1) n (base_of (ports_of z) b)) part_there seat_is
 
-        here_is : here ≡ parts seat.part (base_at seat (length b.procs) (length b.chans))
-        here_is =
-            ap₂ (λ n (x : Ports). piece_of tree count cap (levels - 1) n (base_of x b)) part_there port_is
+      -- there is room for the part
+      pub part_room : HasRoom b0 whole → HasRoom b here
+      part_room room =
+          subst (HasRoom b) (sym here_is)
+          (room_built parts seats b (with_piece b0 whole) i built below
+          (omega (arith, room.0, length-append b0.procs whole.procs), omega (arith, room.1, length-append b0.chans whole.chans)))
 
-        -- there is room for the part
-        pub part_room : HasRoom b0 whole → HasRoom b here
-        part_room room =
-            subst (HasRoom b) (sym here_is)
-            (room_built parts seats b (with_piece b0 whole) i built below
-            (omega (arith, room.0, length-append b0.procs whole.procs), omega (arith, room.1, length-append b0.chans whole.chans)))
-
-        pub continued : (b' : Net) → b' ≡ with_piece b here → IsBuilt b' (i + 1)
-        continued b' e =
-            next_built parts seats b (with_piece b0 whole) i built b' below (e ∙ ap (with_piece b) here_is)
+      pub continued : (b' : Net) → b' ≡ with_piece b here → IsBuilt b' (i + 1)
+      continued b' e =
+          next_built parts seats b (with_piece b0 whole) i built b' below (e ∙ ap (with_piece b) here_is)

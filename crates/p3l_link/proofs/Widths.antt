@@ -5,7 +5,9 @@ use Rattle.std.proofs.lemmas.List.{get_or-append-add, get_or_append_left}
 use Rattle.p3l_firing.specs.declared.net.Chan.{Chan}
 use Rattle.p3l_firing.specs.State.{no_chan}
 use Rattle.p3l_firing.specs.Widths.{Widths, Carries}
-use Rattle.p3l_template.specs.Typing.{Carry, Width, no_width}
+use Rattle.p3l_template.specs.Typing.{Carry}
+use Rattle.p3l_template.specs.Width.{no_width}
+use Rattle.p3l_template.specs.declared.width.Width.{Width}
 
 -- each channel carries its width
 unfoldable pub AllRows : (Chan → Width → Type 0) → List Chan → List Width → Type 0

@@ -1,3 +1,5 @@
+pub mod Node
+pub mod NodeLaw
 pub mod Shape
 pub mod Counts
 pub mod Net

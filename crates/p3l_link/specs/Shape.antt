@@ -1,45 +1,45 @@
--- Which template places a node: the linker's one table.
-use Rattle.std.specs.Prelude.{ℕ, ◌-◌, List, length}
+-- Which template a node has: the one table of kinds.
+use Rattle.std.specs.Prelude.{ℕ, List, length}
 use Rattle.p3l_skel.specs.declared.tree.Form.{Form}
-use Rattle.p3l_skel.specs.declared.tree.Form.TheVariants.{Seq, Comp, Pipe, Farm, Map, Reduce, Loop}
+use Rattle.p3l_skel.specs.declared.tree.Form.TheVariants as form
 use Rattle.p3l_skel.specs.declared.tree.Tree.{Tree}
 use Rattle.p3l_skel.specs.Counts.{count_of}
 use Rattle.p3l_skel.specs.Tree.{node_at}
-use Rattle.p3l_firing.specs.Segments.{level_of}
+use Rattle.p3l_template.specs.Kind.{Kind}
 use Rattle.p3l_template.specs.Shape.{Shape}
-use Rattle.p3l_template.specs.Run.{run_shape}
-use Rattle.p3l_template.specs.Pipe.{pipe_shape}
-use Rattle.p3l_farm.specs.Farm.{farm_shape}
-use Rattle.p3l_map.specs.MapShape.{map_shape}
-use Rattle.p3l_reduce.specs.Reduce.{reduce_shape}
-use Rattle.p3l_loop.specs.Loop.{loop_shape}
+use Rattle.p3l_link.specs.Node.{kind_of}
+use Rattle.p3l_link.specs.declared.node.NodeTemplate.{NodeTemplate}
+use Rattle.p3l_link.specs.declared.node.NodeTemplate.TheVariants.{Run, Pipe, Farm, Map, Reduce, Loop}
 
 -- the template of node k, which has this form, this number of parts, and n workers or segments: a
--- `seq`, a `comp` and a reduce of one segment are one process
-unfoldable pub shape_row : Form → (k parts n : ℕ) → Shape
-shape_row Seq k parts n = run_shape k
-shape_row Comp k parts n = run_shape k
-shape_row Pipe k parts n = pipe_shape (parts - 1)
-shape_row (Farm workers) k parts n = farm_shape k n
-shape_row (Map workers cut) k parts n = map_shape k n
-shape_row (Reduce workers len elem) k parts n = reduce_shape k len (level_of n)
-shape_row (Loop turns tokens) k parts n = loop_shape k tokens
+-- `seq` and a `comp` are one process
+abbrev pub template_row : Form → (k parts n : ℕ) → NodeTemplate
+template_row form.Seq k parts n = Run (record { node = k })
+template_row form.Comp k parts n = Run (record { node = k })
+template_row form.Pipe k parts n = Pipe (record { stages = parts })
+template_row (form.Farm workers) k parts n = Farm (record { node = k; workers = n })
+template_row (form.Map workers cut) k parts n = Map (record { node = k; workers = n })
+template_row (form.Reduce workers len elem) k parts n = Reduce (record { node = k; segments = n; len = len })
+template_row (form.Loop turns tokens) k parts n = Loop (record { node = k; tokens = tokens })
 
 -- the template of node k of a tree, where it is known how many workers or segments each node has
-unfoldable pub shape_at : Tree → (ℕ → ℕ) → ℕ → Shape
-shape_at tree count k = shape_row (node_at tree k).form k (length (node_at tree k).parts) (count k)
+abbrev pub template_at : Tree → (ℕ → ℕ) → ℕ → NodeTemplate
+template_at tree count k = template_row (node_at tree k).form k (length (node_at tree k).parts) (count k)
 
--- the template of node k under the counts of a tree
+-- what is said of it by its kind
+unfoldable pub kind_row : Form → (k parts n : ℕ) → Kind
+kind_row f k parts n = kind_of (template_row f k parts n)
+
+unfoldable pub kind_at : Tree → (ℕ → ℕ) → ℕ → Kind
+kind_at tree count k = kind_row (node_at tree k).form k (length (node_at tree k).parts) (count k)
+
+-- its processes and channels
+abbrev pub shape_row : Form → (k parts n : ℕ) → Shape
+shape_row f k parts n = (kind_row f k parts n).shape
+
+abbrev pub shape_at : Tree → (ℕ → ℕ) → ℕ → Shape
+shape_at tree count k = (kind_at tree count k).shape
+
+-- the same under the counts of a tree
 abbrev pub shape_of : Tree → List ℕ → ℕ → Shape
 shape_of tree counts k = shape_at tree (count_of tree counts) k
-
--- which part of its node is at seat v of its template: the stages of a pipe are its parts in
--- order, all others are copies of the one part, or of a loop's body
-abbrev pub seat_part : Form → ℕ → ℕ
-seat_part Seq v = 0
-seat_part Comp v = 0
-seat_part Pipe v = v
-seat_part (Farm workers) v = 0
-seat_part (Map workers cut) v = 0
-seat_part (Reduce workers len elem) v = 0
-seat_part (Loop turns tokens) v = 0

@@ -23,7 +23,7 @@ use Rattle.p3l_format.specs.laws.Parts.{both_true, first_true, second_true}
 use Rattle.p3l_template.specs.Shape.{Base, Seat, Shape, empty_chan}
 use Rattle.p3l_reduce.specs.Reduce.{fold_procs, join_procs, reduce_shape}
 use Rattle.p3l_link.specs.Net.{Piece, base_at, end_net, inner_pieces, linked_net, piece_of, root_base, root_piece}
-use Rattle.p3l_link.specs.Shape.{shape_at, shape_row}
+use Rattle.p3l_link.specs.Shape.{kind_at, kind_row, shape_at, shape_row}
 use Rattle.p3l_image.specs.Net.{chan_format}
 use Rattle.p3l_load.proofs.Ranges.{fits_in}
 
@@ -108,7 +108,7 @@ module _ (cap : ℕ) (some : 1 ≤ cap) (few : cap ≤ 1024) where
       }
 
   row_fine : (form : Form) (k parts n : ℕ) (base : Base) → HasSmallNumbers form → IsFineShape (shape_row form k parts n) base
-  unfolding shape_row
+  unfolding kind_row
   row_fine Seq k parts n base has = record { small = refl; fits = refl }
   row_fine Comp k parts n base has = record { small = refl; fits = refl }
   row_fine Pipe k parts n base has = record { small = refl; fits = empties (parts - 1) }
@@ -136,7 +136,7 @@ module _ (cap : ℕ) (some : 1 ≤ cap) (few : cap ≤ 1024) where
 
   piece_fine : (tree : Tree) (count : ℕ → ℕ) → ((k : ℕ) → HasSmallNumbers (node_at tree k).form) → (d k : ℕ) (base : Base)
       → IsFine (piece_of tree count cap d k base).procs (piece_of tree count cap d k base).chans
-  unfolding piece_of shape_at
+  unfolding piece_of kind_at
   piece_fine tree count numbers zero k base = record { small = refl; fits = refl }
   piece_fine tree count numbers (suc d) k base =
       let shape = shape_at tree count k in

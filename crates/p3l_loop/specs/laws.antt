@@ -2,3 +2,5 @@ pub mod HeldLaw
 pub mod ViewLaw
 pub mod LoopLaw
 pub mod LoopTyping
+pub mod LoopFound
+pub mod LoopWidths

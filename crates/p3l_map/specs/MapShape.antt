@@ -1,5 +1,5 @@
 -- The template of a map.
-use Rattle.std.specs.Prelude.{◌≡◌, ℕ, ◌<◌, Option, suc, ◌+◌, ◌*◌, ◌-◌, ◌&&◌, List, [], ◌∷◌, length, get_or, replicate}
+use Rattle.std.specs.Prelude.{◌≡◌, ℕ, ◌<◌, Option, suc, ◌+◌, ◌*◌, ◌-◌, ◌&&◌, List, length, get_or}
 use Rattle.p3l_base.specs.declared.cut.Cut.{Cut}
 use Rattle.p3l_base.specs.declared.outcome.Outcome.{Outcome}
 use Rattle.p3l_skel.specs.declared.tree.Form.TheVariants.{Map}
@@ -11,10 +11,9 @@ use Rattle.p3l_firing.specs.declared.process.Proc.{Proc}
 use Rattle.p3l_firing.specs.declared.process.ProcKind.TheVariants.{Scatter, Gather}
 use Rattle.p3l_firing.specs.declared.token.Token.{Token}
 use Rattle.p3l_map.specs.Map.{Pieces, View, mapped, to_come, well_kept}
-use Rattle.p3l_template.specs.Fan.{first_proc, last_proc}
+use Rattle.p3l_template.specs.Fan.{Fanned, fan_part, fan_shape, first_proc, last_proc}
 use Rattle.p3l_template.specs.Part.{Part, line, no_part, all_orderly, due}
-use Rattle.p3l_template.specs.Placed.{proc_end, chan_end}
-use Rattle.p3l_template.specs.Shape.{empty_chan, Shape, Role, Base, fan_seats}
+use Rattle.p3l_template.specs.Shape.{Shape, Role, Base}
 use Rattle.p3l_template.specs.Sum.{sum_of}
 use Rattle.p3l_template.specs.Units.{Units}
 use Rattle.p3l_firing.specs.Nodes.{last_element, element_of, joined_of}
@@ -43,38 +42,27 @@ view_of base parts s =
       output = s.tokens base.output;
     }
 
-abbrev pub map_part : Units → ℕ → ℕ → (ℕ → Role) → Base → List Part → Part
-map_part units node n roles base parts =
+-- what a map makes of its n workers
+abbrev pub map_fanned : (node n : ℕ) → Fanned
+map_fanned node n =
     record {
-      input = base.input;
-      output = base.output;
-      proc_from = base.proc;
-      proc_to = proc_end (base.proc + 2) parts;
-      chan_from = base.chan;
-      chan_to = chan_end (base.chan + (n + n)) parts;
-      meaning = mapped (pieces_of units node n (roles 0).meaning);
-      pending = λ s. to_come (pieces_of units node n (roles 0).meaning) (view_of base parts s);
-      orderly = λ s. well_kept (pieces_of units node n (roles 0).meaning) (view_of base parts s) && all_orderly parts s;
-      firings = 2 + suc (last_element units.tree node) * ((roles 0).firings + 2);
-      owed = λ s.
+      meaning = λ units roles. mapped (pieces_of units node n (roles 0).meaning);
+      firings = λ units roles. 2 + suc (last_element units.tree node) * ((roles 0).firings + 2);
+      pending = λ units roles base parts s. to_come (pieces_of units node n (roles 0).meaning) (view_of base parts s);
+      orderly = λ units roles base parts s.
+          well_kept (pieces_of units node n (roles 0).meaning) (view_of base parts s) && all_orderly parts s;
+      owed = λ units roles base parts s.
           sum_of (λ w. due (get_or parts w no_part) s + length (lines_of parts s w)) n
           + (length (s.own base.proc).held
           * ((suc (last_element units.tree node) - (s.own base.proc).number) * ((roles 0).firings + 2))
           + length (to_come (pieces_of units node n (roles 0).meaning) (view_of base parts s)));
     }
 
-abbrev pub map_shape : ℕ → ℕ → Shape
-map_shape node n =
-    record {
-      procs = λ base. scatter_proc node n base ∷ (gather_proc node n base ∷ []);
-      chans = λ base. n + n;
-      laid = λ cap base. replicate (n + n) (empty_chan cap);
-      inner = n;
-      seats = λ base. fan_seats base.chan (base.chan + n) n;
-      meaning = λ units roles. mapped (pieces_of units node n (roles 0).meaning);
-      firings = λ units roles. 2 + suc (last_element units.tree node) * ((roles 0).firings + 2);
-      part = λ units roles base parts. map_part units node n roles base parts;
-    }
+abbrev pub map_part : Units → ℕ → ℕ → (ℕ → Role) → Base → List Part → Part
+map_part units node n roles base parts = fan_part n (map_fanned node n) units roles base parts
+
+abbrev pub map_shape : (node n : ℕ) → Shape
+map_shape node n = fan_shape Scatter Gather node n (map_fanned node n)
 
 -- a node of a tree that is a map over n workers
 pub record IsMapNode (tree : Tree) (node n : ℕ) : Type 0 where

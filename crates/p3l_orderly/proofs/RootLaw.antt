@@ -14,8 +14,11 @@ use Rattle.p3l_firing.specs.State.{State}
 use Rattle.p3l_firing.specs.declared.net.Chan.{Chan}
 use Rattle.p3l_firing.specs.declared.net.Net.{Net}
 use Rattle.p3l_firing.specs.declared.token.Token.{Token}
+use Rattle.p3l_template.specs.Finding.{Finding, bares, finding_of, if_orderly}
 use Rattle.p3l_template.specs.Part.{Part}
+use Rattle.p3l_template.specs.Snapshot.{state_of}
 use Rattle.p3l_template.specs.Units.{Units}
+use Rattle.p3l_template.specs.laws.BareLaw.{bares-length}
 use Rattle.p3l_link.specs.Laws.{IsLinkable}
 use Rattle.p3l_link.specs.Net.{root_base}
 use Rattle.p3l_link.specs.Part.{root_part}
@@ -28,13 +31,9 @@ use Rattle.p3l_net.specs.Shot.{queues_of, restored, token_of}
 use Rattle.p3l_net.specs.declared.shot.SavedToken.{SavedToken}
 use Rattle.p3l_net.specs.declared.shot.Shot.{Shot}
 use Rattle.p3l_orderly.specs.declared.walk.Found.{Found}
-use Rattle.p3l_orderly.specs.Finding.{Finding, Finds, bares, finding_of, if_orderly}
 use Rattle.p3l_orderly.specs.Root.{IsOrderlyShot}
 use Rattle.p3l_orderly.specs.Saved.{snapshot_of}
-use Rattle.p3l_orderly.specs.Snapshot.{state_of}
-use Rattle.p3l_orderly.specs.Walk.{AreFound}
 use Rattle.p3l_orderly.specs.Walked.{HasRoomAt, found_to, walk_found, walk_piece}
-use Rattle.p3l_orderly.specs.laws.BareLaw.{bares-length}
 use Rattle.p3l_orderly.proofs.WalkLaw.{node_is_found}
 use Rattle.p3l_orderly.proofs.WalkSteps.{found_of}
 
@@ -127,59 +126,58 @@ module _ (tree : Tree) (counts : List ℕ) (lawful : IsLawfulTree tree) (fit : H
       let alike = law.reads s t (record { tokens = λ c from to. same.tokens c; own = λ p from to. same.own p }) in
       ap₂ (λ (o : Bool) (p : List Token). record { orderly = o; pending = bares p }) alike.orderly alike.pending
 
-  module _ (finds : ℕ → Finds) (are : AreFound tree (count_of tree counts) finds) where
-    abbrev found : State → Finding
-    found t = walk_found finds tree (count_of tree counts) nesting 0 root_base t
+  abbrev found : State → Finding
+  found t = walk_found tree (count_of tree counts) nesting 0 root_base t
 
-    root_is : (leaf : Leaf) (s : State) → finding_of s (root_part (record { tree = tree; leaf = leaf }) counts) ≡ found s
-    unfolding root_part
-    root_is leaf s = node_is_found s (record { tree = tree; leaf = leaf }) (count_of tree counts) 1 finds are nesting 0 root_base
+  root_is : (leaf : Leaf) (s : State) → finding_of s (root_part (record { tree = tree; leaf = leaf }) counts) ≡ found s
+  unfolding root_part
+  root_is leaf s = node_is_found s (record { tree = tree; leaf = leaf }) (count_of tree counts) 1 nesting 0 root_base
 
-    root_found : (leaf : Leaf) (s t : State) → IsSame s t →
-        finding_of t (root_part (record { tree = tree; leaf = leaf }) counts) ≡ found s
-    unfolding trapping
-    root_found leaf s t same =
-        root_is leaf t ∙ sym (root_is (λ «module» words. Trapped (record { kind = Budget; «module» = 0 })) t)
-        ∙ same_found s t same ∙ root_is (λ «module» words. Trapped (record { kind = Budget; «module» = 0 })) s
+  root_found : (leaf : Leaf) (s t : State) → IsSame s t →
+      finding_of t (root_part (record { tree = tree; leaf = leaf }) counts) ≡ found s
+  unfolding trapping
+  root_found leaf s t same =
+      root_is leaf t ∙ sym (root_is (λ «module» words. Trapped (record { kind = Budget; «module» = 0 })) t)
+      ∙ same_found s t same ∙ root_is (λ «module» words. Trapped (record { kind = Budget; «module» = 0 })) s
 
-    module _ (shot : Shot) (leaf : Leaf) (net : Net) (lists : length shot.chans ≡ length net.chans) where
-      abbrev pub Holds : Type 0
-      Holds = IsOrderlyShot (record { tree = tree; leaf = leaf }) counts net shot
+  module _ (shot : Shot) (leaf : Leaf) (net : Net) (lists : length shot.chans ≡ length net.chans) where
+    abbrev pub Holds : Type 0
+    Holds = IsOrderlyShot (record { tree = tree; leaf = leaf }) counts net shot
 
-      here : finding_of (state_in (restored tree net shot) []) (root_part (record { tree = tree; leaf = leaf }) counts)
-          ≡ found (state_of (snapshot_of shot))
-      here = root_found leaf (state_of (snapshot_of shot)) (state_in (restored tree net shot) []) (restored_same tree net shot lists)
+    here : finding_of (state_in (restored tree net shot) []) (root_part (record { tree = tree; leaf = leaf }) counts)
+        ≡ found (state_of (snapshot_of shot))
+    here = root_found leaf (state_of (snapshot_of shot)) (state_in (restored tree net shot) []) (restored_same tree net shot lists)
 
-      pub unfit : (HaveInWords tree (option_to_list shot.inbox) → ⊥) → IsTrue false ↔ Holds
-      unfolding state_in restored
-      unfit never = (λ h. absurd (cc h), λ h. absurd (never h.orderly.items))
+    pub unfit : (HaveInWords tree (option_to_list shot.inbox) → ⊥) → IsTrue false ↔ Holds
+    unfolding state_in restored
+    unfit never = (λ h. absurd (cc h), λ h. absurd (never h.orderly.items))
 
-      pub unsorted : None ≡ if_orderly (found (state_of (snapshot_of shot))) → IsTrue false ↔ Holds
-      unsorted e = (
-        λ h. absurd (cc h),
-        λ h. (let no = if_none (found (state_of (snapshot_of shot))) e in
-            let yes = sym (ap (λ (f : Finding). f.orderly) here) ∙ h.orderly.root in
-            absurd (cc (sym yes ∙ no))),
-      )
+    pub unsorted : None ≡ if_orderly (found (state_of (snapshot_of shot))) → IsTrue false ↔ Holds
+    unsorted e = (
+      λ h. absurd (cc h),
+      λ h. (let no = if_none (found (state_of (snapshot_of shot))) e in
+          let yes = sym (ap (λ (f : Finding). f.orderly) here) ∙ h.orderly.root in
+          absurd (cc (sym yes ∙ no))),
+    )
 
-      pub sorted : (pending : List Token) (result : Bool) → HaveInWords tree (option_to_list shot.inbox) →
-          Some pending ≡ if_orderly (found (state_of (snapshot_of shot))) →
-          IsTrue result ↔ (shot.sent ≡ shot.emitted
-          + (length ((state_of (snapshot_of shot)).tokens 1) + (length pending + length ((state_of (snapshot_of shot)).tokens 0)))) →
-          IsTrue result ↔ Holds
-      unfolding state_in restored
-      sorted pending result words e h =
-          let s : State = state_in (restored tree net shot) [] in
-          let P : Part = root_part (record { tree = tree; leaf = leaf }) counts in
-          let f = if_some (found (state_of (snapshot_of shot))) pending e in
-          let same = restored_same tree net shot lists in
-          let one = ap (λ (xs : List Token). length xs) (same.tokens 1) in
-          let none = ap (λ (xs : List Token). length xs) (same.tokens 0) in
-          let left : length (P.pending s) ≡ length pending =
-          sym (bares-length (P.pending s)) ∙ ap (λ (g : Finding). length g.pending) here ∙ sym (ap (λ (xs : List Token). length xs) f.1) in (
-            λ y. record {
-              orderly = record { root = ap (λ (g : Finding). g.orderly) here ∙ f.0; items = words };
-              balanced = let sum = h.0 y in omega (arith, sum, one, none, left);
-            },
-            λ b. h.1 (let sum = b.balanced in omega (arith, sum, one, none, left)),
-          )
+    pub sorted : (pending : List Token) (result : Bool) → HaveInWords tree (option_to_list shot.inbox) →
+        Some pending ≡ if_orderly (found (state_of (snapshot_of shot))) →
+        IsTrue result ↔ (shot.sent ≡ shot.emitted
+        + (length ((state_of (snapshot_of shot)).tokens 1) + (length pending + length ((state_of (snapshot_of shot)).tokens 0)))) →
+        IsTrue result ↔ Holds
+    unfolding state_in restored
+    sorted pending result words e h =
+        let s : State = state_in (restored tree net shot) [] in
+        let P : Part = root_part (record { tree = tree; leaf = leaf }) counts in
+        let f = if_some (found (state_of (snapshot_of shot))) pending e in
+        let same = restored_same tree net shot lists in
+        let one = ap (λ (xs : List Token). length xs) (same.tokens 1) in
+        let none = ap (λ (xs : List Token). length xs) (same.tokens 0) in
+        let left : length (P.pending s) ≡ length pending =
+        sym (bares-length (P.pending s)) ∙ ap (λ (g : Finding). length g.pending) here ∙ sym (ap (λ (xs : List Token). length xs) f.1) in (
+          λ y. record {
+            orderly = record { root = ap (λ (g : Finding). g.orderly) here ∙ f.0; items = words };
+            balanced = let sum = h.0 y in omega (arith, sum, one, none, left);
+          },
+          λ b. h.1 (let sum = b.balanced in omega (arith, sum, one, none, left)),
+        )

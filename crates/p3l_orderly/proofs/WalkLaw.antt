@@ -3,15 +3,16 @@ use Rattle.std.proofs.Common.{◌≡◌, ℕ, zero, suc, ◌+◌, ◌&&◌, Bool
 use Rattle.p3l_skel.specs.Tree.{part_at}
 use Rattle.p3l_firing.specs.State.{State}
 use Rattle.p3l_firing.specs.declared.token.Token.{Token}
+use Rattle.p3l_template.specs.Finding.{Finding, Finds, finding_of, pending_of, AreSeated}
 use Rattle.p3l_template.specs.Part.{Part, all_orderly}
 use Rattle.p3l_template.specs.Placed.{proc_end, chan_end}
 use Rattle.p3l_template.specs.Shape.{Base, Role, Seat, Shape}
 use Rattle.p3l_template.specs.Units.{Units}
 use Rattle.p3l_link.specs.Net.{Piece, base_at, inner_pieces, piece_of}
 use Rattle.p3l_link.specs.Part.{role_of, inner_parts, part_of}
-use Rattle.p3l_link.specs.Shape.{shape_at}
-use Rattle.p3l_orderly.specs.Finding.{Finding, Finds, finding_of, pending_of, AreSeated}
-use Rattle.p3l_orderly.specs.Walk.{AreFound, all_found, all_pending, with_inner, inner_found, node_found}
+use Rattle.p3l_link.specs.Shape.{kind_at, shape_at}
+use Rattle.p3l_link.proofs.AnyKind.{found_at}
+use Rattle.p3l_orderly.specs.Walk.{all_found, all_pending, with_inner, inner_found, node_found}
 
 module _ (s : State) where
   orderly_found : (parts : List Part) → all_orderly parts s ≡ all_found (map (finding_of s) parts)
@@ -60,18 +61,19 @@ module _ (s : State) where
           chan_to = ap₂ chan_end x.chan_to e ∙ r.chan_to ∙ omega (arith, lc);
         }
 
-  module _ (units : Units) (count : ℕ → ℕ) (cap : ℕ) (finds : ℕ → Finds) (are : AreFound units.tree count finds) where
+  module _ (units : Units) (count : ℕ → ℕ) (cap : ℕ) where
     is_found : (d k : ℕ) (base : Base) →
-        IsFoundAt (node_found finds units.tree count cap d k base s) (piece_of units.tree count cap d k base) base (part_of units count d k base)
+        IsFoundAt (node_found units.tree count cap d k base s) (piece_of units.tree count cap d k base) base (part_of units count d k base)
     unfolding node_found piece_of part_of
     is_found zero k base = record { same = refl; input = refl; output = refl; proc_to = refl; chan_to = omega arith }
     is_found (suc d) k base =
         let shape : Shape = shape_at units.tree count k in
         let roles : ℕ → Role = λ v. role_of units count d (part_at units.tree k v) in
-        let t = are.found k in
+        let t = found_at units.tree count k in
+        let finds : Finds = (kind_at units.tree count k).finds in
         let p : ℕ = base.proc + length (shape.procs base) in
         let c : ℕ = base.chan + shape.chans base in
-        let i = inner (λ v. part_of units count d (part_at units.tree k v)) (λ v b. node_found finds units.tree count cap d (part_at units.tree k v) b s)
+        let i = inner (λ v. part_of units count d (part_at units.tree k v)) (λ v b. node_found units.tree count cap d (part_at units.tree k v) b s)
         (λ v. piece_of units.tree count cap d (part_at units.tree k v)) (λ v b. is_found d (part_at units.tree k v) b) (shape.seats base) p c in
         let parts : List Part = inner_parts (λ v. part_of units count d (part_at units.tree k v)) (shape.seats base) p c in
         let rest : Piece = inner_pieces (λ v. piece_of units.tree count cap d (part_at units.tree k v)) (shape.seats base) p c in
@@ -83,9 +85,9 @@ module _ (s : State) where
           same =
               ap₂ (λ (o : Bool) (q : List Token). record { orderly = o; pending = q })
               (t.orderly units roles base parts s i.seated
-              ∙ ap₂ (λ b ps. b && (finds k units.tree base s ps).orderly) (orderly_found parts) (pending_found parts))
-              (t.pending units roles base parts s i.seated ∙ ap (λ ps. (finds k units.tree base s ps).pending) (pending_found parts))
-              ∙ ap (λ fs. with_inner fs (finds k units.tree base s)) i.found;
+              ∙ ap₂ (λ b ps. b && (finds units.tree base s ps).orderly) (orderly_found parts) (pending_found parts))
+              (t.pending units roles base parts s i.seated ∙ ap (λ ps. (finds units.tree base s ps).pending) (pending_found parts))
+              ∙ ap (λ fs. with_inner fs (finds units.tree base s)) i.found;
           input = e.input;
           output = e.output;
           proc_to = e.proc_to ∙ i.proc_to ∙ omega (arith, lp);
@@ -93,5 +95,5 @@ module _ (s : State) where
         }
 
     pub node_is_found : (d k : ℕ) (base : Base) →
-        finding_of s (part_of units count d k base) ≡ node_found finds units.tree count cap d k base s
+        finding_of s (part_of units count d k base) ≡ node_found units.tree count cap d k base s
     node_is_found d k base = (is_found d k base).same

@@ -1,23 +1,21 @@
 -- The steps of the walk over a tree in code: what was found so far, with what is found at the seats that are left, is all.
-use Rattle.std.proofs.Common.{◌≡◌, ℕ, zero, suc, ◌+◌, ◌-◌, ◌<◌, ◌≤◌, ◌&&◌, Bool, true, false, Option, Some, None, cond, List, [], ◌∷◌, ◌++◌, length, get_or, map, drop, drop-cons, refl, sym, ap, ap₂, ◌∙◌, subst, arith, append_assoc, append-nil, length-append}
+use Rattle.std.proofs.Common.{◌≡◌, ℕ, zero, suc, ◌+◌, ◌-◌, ◌<◌, ◌≤◌, ◌&&◌, Bool, true, false, Option, Some, None, cond, List, [], ◌∷◌, ◌++◌, length, get_or, map, drop, drop-cons, refl, sym, ap, ap₂, ◌∙◌, subst, subst₂, arith, append_assoc, append-nil, length-append}
 use Rattle.std.proofs.lemmas.Bool.{cond-false}
-use Rattle.std.proofs.lemmas.List.{drop_all, get_or-map, length-map}
+use Rattle.std.proofs.lemmas.List.{drop_all, get_or_default, length-map}
 use Rattle.p3l_skel.specs.declared.tree.Tree.{Tree}
 use Rattle.p3l_skel.specs.Tree.{part_at}
 use Rattle.p3l_skel.specs.Lawful.{IsLawfulTree}
 use Rattle.p3l_firing.specs.State.{State}
 use Rattle.p3l_firing.specs.declared.token.Token.{Token}
+use Rattle.p3l_template.specs.Finding.{Finding, if_orderly}
 use Rattle.p3l_template.specs.Placed.{IsLawfulShape}
 use Rattle.p3l_template.specs.Shape.{Base, Seat, no_seat}
 use Rattle.p3l_link.specs.Counts.{IsCounted}
 use Rattle.p3l_link.specs.Net.{Piece, base_at, followed, inner_pieces, piece_of, whole_piece}
-use Rattle.p3l_link.specs.Shape.{shape_at}
+use Rattle.p3l_link.specs.Shape.{kind_at, shape_at}
 use Rattle.p3l_link.proofs.Counted.{counted_deep, counted_own, counted_there, seat_counted, shape_lawful}
 use Rattle.p3l_link.proofs.Placing.{piece_step}
-use Rattle.p3l_orderly.specs.declared.layout.InnerPart.{InnerPart}
 use Rattle.p3l_orderly.specs.declared.walk.Found.{Found}
-use Rattle.p3l_orderly.specs.Finding.{Finding, Finds, if_orderly}
-use Rattle.p3l_orderly.specs.Layout.{FitsAt, inner_part}
 use Rattle.p3l_orderly.specs.Walk.{all_found, all_pending, inner_found, node_found, with_inner}
 use Rattle.p3l_orderly.specs.Walked.{HasRoomAt, found_at, found_to, walk_found, walk_piece}
 
@@ -104,7 +102,7 @@ ending_none f p c e = go f.orderly e
     go true h = absurd (cc h)
     go false h = refl
 
-module _ (finds : ℕ → Finds) (tree : Tree) (count : ℕ → ℕ) (levels k : ℕ) (base : Base) (s : State) where
+module _ (tree : Tree) (count : ℕ → ℕ) (levels k : ℕ) (base : Base) (s : State) where
   abbrev pub seats : List Seat
   seats = (shape_at tree count k).seats base
 
@@ -112,7 +110,7 @@ module _ (finds : ℕ → Finds) (tree : Tree) (count : ℕ → ℕ) (levels k :
   pieces = λ v. piece_of tree count 1 (levels - 1) (part_at tree k v)
 
   abbrev pub founds : ℕ → Base → Finding
-  founds = λ v b. node_found finds tree count 1 (levels - 1) (part_at tree k v) b s
+  founds = λ v b. node_found tree count 1 (levels - 1) (part_at tree k v) b s
 
   abbrev pub first_proc : ℕ
   first_proc = base.proc + length ((shape_at tree count k).procs base)
@@ -231,18 +229,18 @@ module _ (finds : ℕ → Finds) (tree : Tree) (count : ℕ → ℕ) (levels k :
     law = shape_lawful tree count k lawful (counted_there tree count levels k counted) (counted_own tree count levels k counted)
 
     -- the node by its own template and its inner parts
-    node_step : walk_found finds tree count levels k base s ≡ with_inner all_inner (finds k tree base s)
+    node_step : walk_found tree count levels k base s ≡ with_inner all_inner ((kind_at tree count k).finds tree base s)
     unfolding node_found
     node_step = go levels (counted_deep tree count levels k counted)
       where
-        go : (n : ℕ) → 0 < n → node_found finds tree count 1 n k base s
-            ≡ with_inner (inner_found (λ v b. node_found finds tree count 1 (n - 1) (part_at tree k v) b s)
-            (λ v. piece_of tree count 1 (n - 1) (part_at tree k v)) seats first_proc first_chan) (finds k tree base s)
+        go : (n : ℕ) → 0 < n → node_found tree count 1 n k base s
+            ≡ with_inner (inner_found (λ v b. node_found tree count 1 (n - 1) (part_at tree k v) b s)
+            (λ v. piece_of tree count 1 (n - 1) (part_at tree k v)) seats first_proc first_chan) ((kind_at tree count k).finds tree base s)
         go zero l = absurd (omega arith)
         go (suc d) l =
             let e : d ≡ suc d - 1 = omega arith in
-            ap (λ n. with_inner (inner_found (λ v b. node_found finds tree count 1 n (part_at tree k v) b s)
-            (λ v. piece_of tree count 1 n (part_at tree k v)) seats first_proc first_chan) (finds k tree base s)) e
+            ap (λ n. with_inner (inner_found (λ v b. node_found tree count 1 n (part_at tree k v) b s)
+            (λ v. piece_of tree count 1 n (part_at tree k v)) seats first_proc first_chan) ((kind_at tree count k).finds tree base s)) e
 
     piece_is : walk_piece tree count levels k base ≡ whole_piece (shape_at tree count k) 1 pieces base
     piece_is = piece_step tree count 1 levels k base (counted_deep tree count levels k counted)
@@ -268,7 +266,8 @@ module _ (finds : ℕ → Finds) (tree : Tree) (count : ℕ → ℕ) (levels k :
         let wc = whole_chans in
         (omega (arith, wp, room.0), omega (arith, wc, room.1))
 
-    pub own_room : HasRoomAt (walk_piece tree count levels k base) base → FitsAt (shape_at tree count k) base
+    pub own_room : HasRoomAt (walk_piece tree count levels k base) base →
+        (base.proc + length ((shape_at tree count k).procs base) ≤ 1048576) × (base.chan + (shape_at tree count k).chans base ≤ 1048576)
     own_room room =
         let r = whole_room room in
         (omega (arith, r.0), omega (arith, r.1))
@@ -281,80 +280,79 @@ module _ (finds : ℕ → Finds) (tree : Tree) (count : ℕ → ℕ) (levels k :
 
     -- where one inner part is not orderly, nothing is found
     pub nothing_found : all_found all_inner ≡ false →
-        None ≡ found_at (walk_found finds tree count levels k base s) (walk_piece tree count levels k base) base
+        None ≡ found_at (walk_found tree count levels k base s) (walk_piece tree count levels k base) base
     nothing_found h =
-        none_found (walk_found finds tree count levels k base s) _ _
-        (ap (λ (f : Finding). f.orderly) node_step ∙ ap (λ b. b && (finds k tree base s (all_pending all_inner)).orderly) h)
+        none_found (walk_found tree count levels k base s) _ _
+        (ap (λ (f : Finding). f.orderly) node_step ∙ ap (λ b. b && ((kind_at tree count k).finds tree base s (all_pending all_inner)).orderly) h)
 
     -- where all are, the template's own finding decides
     pub own_found : (p c : ℕ) (inner : List (List Token)) → IsAll p c inner →
-        found_to (finds k tree base s inner) p c
-        ≡ found_at (walk_found finds tree count levels k base s) (walk_piece tree count levels k base) base
+        found_to ((kind_at tree count k).finds tree base s inner) p c
+        ≡ found_at (walk_found tree count levels k base s) (walk_piece tree count levels k base) base
     own_found p c inner all =
-        ap₂ (found_to (finds k tree base s inner)) (all.procs ∙ sym whole_procs) (all.chans ∙ sym whole_chans)
-        ∙ ap (λ z. found_at (finds k tree base s z) (walk_piece tree count levels k base) base) all.pending
+        ap₂ (found_to ((kind_at tree count k).finds tree base s inner)) (all.procs ∙ sym whole_procs) (all.chans ∙ sym whole_chans)
+        ∙ ap (λ z. found_at ((kind_at tree count k).finds tree base s z) (walk_piece tree count levels k base) base) all.pending
         ∙ ap (λ b. found_at (record {
-          orderly = b && (finds k tree base s (all_pending all_inner)).orderly;
-          pending = (finds k tree base s (all_pending all_inner)).pending;
+          orderly = b && ((kind_at tree count k).finds tree base s (all_pending all_inner)).orderly;
+          pending = ((kind_at tree count k).finds tree base s (all_pending all_inner)).pending;
         }) (walk_piece tree count levels k base) base) (sym all.orderly)
         ∙ ap (λ z. found_at z (walk_piece tree count levels k base) base) (sym node_step)
 
-    -- an inner part of the layout is the one at its seat
-    module _ (items : List InnerPart) (items_are : items ≡ map (inner_part (part_at tree k)) seats) (i : ℕ) where
-      pub seats_length : length items ≡ length seats
-      seats_length = ap length items_are ∙ length-map seats (inner_part (part_at tree k))
-
-      module _ (l : i < length items) where
-        below : i < length seats
-        below = let e = seats_length in omega (arith, l, e)
-
-        module _ (none : InnerPart) where
-          abbrev item : InnerPart
-          item = get_or items i none
-
-          item_is : item ≡ inner_part (part_at tree k) (get_or seats i no_seat)
-          item_is = ap (λ xs. get_or xs i none) items_are ∙ get_or-map (inner_part (part_at tree k)) seats i no_seat none below
-
-          pub item_counted : IsCounted tree count (levels - 1) item.node
-          item_counted =
-              let some = counted_deep tree count levels k counted in
-              let e : levels ≡ suc (levels - 1) = omega (arith, some) in
-              subst (λ (x : InnerPart). IsCounted tree count (levels - 1) x.node) (sym item_is)
-              (seat_counted tree count k lawful (counted_there tree count levels k counted) base i below (levels - 1)
-              (subst (λ d. IsCounted tree count d k) e counted))
-
-          module _ (p c : ℕ) where
-            abbrev at : InnerPart → Base
-            at x = record { input = x.input; output = x.output; proc = p; chan = c }
-
-            pub item_room : (inner : List (List Token)) → IsLeft i p c inner → HasRoomAt (walk_piece tree count levels k base) base →
-                HasRoomAt (walk_piece tree count (levels - 1) item.node (at item)) (at item)
-            item_room inner left room =
-                subst (λ (x : InnerPart). HasRoomAt (walk_piece tree count (levels - 1) x.node (at x)) (at x)) (sym item_is)
-                (left_room i p c inner left below (whole_room room))
-
-            pub item_found : found_at (walk_found finds tree count (levels - 1) item.node (at item) s)
-                (walk_piece tree count (levels - 1) item.node (at item)) (at item)
-                ≡ found_at (founds (get_or seats i no_seat).part (base_at (get_or seats i no_seat) p c))
-                (pieces (get_or seats i no_seat).part (base_at (get_or seats i no_seat) p c)) (base_at (get_or seats i no_seat) p c)
-            item_found =
-                ap (λ (x : InnerPart). found_at (walk_found finds tree count (levels - 1) x.node (at x) s)
-                (walk_piece tree count (levels - 1) x.node (at x)) (at x)) item_is
-
-            -- the next step of the walk
-            pub item_on : (inner : List (List Token)) → IsLeft i p c inner → (x : Found) (p' c' : ℕ) (inner' : List (List Token)) →
-                Some x ≡ found_at (walk_found finds tree count (levels - 1) item.node (at item) s)
-                (walk_piece tree count (levels - 1) item.node (at item)) (at item) →
-                p' ≡ x.proc → c' ≡ x.chan → inner' ≡ inner ++ x.pending ∷ [] → IsLeft (i + 1) p' c' inner'
-            item_on inner left x p' c' inner' e = left_on i p c inner left below x p' c' inner' (e ∙ item_found)
-
-            pub item_none : (inner : List (List Token)) → IsLeft i p c inner →
-                None ≡ found_at (walk_found finds tree count (levels - 1) item.node (at item) s)
-                (walk_piece tree count (levels - 1) item.node (at item)) (at item) →
-                None ≡ found_at (walk_found finds tree count levels k base s) (walk_piece tree count levels k base) base
-            item_none inner left e =
-                nothing_found (left_none i p c inner left below (found_none (founds (get_or seats i no_seat).part
-                (base_at (get_or seats i no_seat) p c)) _ _ (e ∙ item_found)))
+    module _ (items : List Seat) (items_are : items ≡ seats) (i : ℕ) where
+      seats_length : length items ≡ length seats
+      seats_length = ap length items_are
 
       pub items_end : (p c : ℕ) (inner : List (List Token)) → IsLeft i p c inner → length items ≤ i → IsAll p c inner
       items_end p c inner left l = left_all i p c inner left (let e = seats_length in omega (arith, l, e))
+
+      -- the part that was found at the next seat
+      module _ (l : i < length items) (x y : Seat) (same : x ≡ y) (at_i : y ≡ get_or items i y) (part : ℕ)
+          (part_is : part ≡ part_at tree k x.part) where
+        below : i < length seats
+        below = let e = seats_length in omega (arith, l, e)
+
+        seat_is : x ≡ get_or seats i no_seat
+        seat_is = same ∙ at_i ∙ ap (λ xs. get_or xs i y) items_are ∙ get_or_default seats i y no_seat below
+
+        part_there : part ≡ part_at tree k (get_or seats i no_seat).part
+        part_there = part_is ∙ ap (λ (z : Seat). part_at tree k z.part) seat_is
+
+        pub part_counted : IsCounted tree count (levels - 1) part
+        part_counted =
+            let some = counted_deep tree count levels k counted in
+            let e : levels ≡ suc (levels - 1) = omega (arith, some) in
+            subst (IsCounted tree count (levels - 1)) (sym part_there)
+            (seat_counted tree count k lawful (counted_there tree count levels k counted) base i below (levels - 1)
+            (subst (λ d. IsCounted tree count d k) e counted))
+
+        module _ (p c : ℕ) (b : Base) (place : b ≡ base_at x p c) where
+          abbrev here : Piece
+          here = walk_piece tree count (levels - 1) part b
+
+          abbrev there_found : Option Found
+          there_found = found_at (walk_found tree count (levels - 1) part b s) here b
+
+          base_is : b ≡ base_at (get_or seats i no_seat) p c
+          base_is = place ∙ ap (λ (z : Seat). base_at z p c) seat_is
+
+          pub part_room : (inner : List (List Token)) → IsLeft i p c inner → HasRoomAt (walk_piece tree count levels k base) base → HasRoomAt here b
+          part_room inner left room =
+              subst₂ (λ n (z : Base). HasRoomAt (walk_piece tree count (levels - 1) n z) z) (sym part_there) (sym base_is)
+              (left_room i p c inner left below (whole_room room))
+
+          found_is : there_found
+              ≡ found_at (founds (get_or seats i no_seat).part (base_at (get_or seats i no_seat) p c))
+              (pieces (get_or seats i no_seat).part (base_at (get_or seats i no_seat) p c)) (base_at (get_or seats i no_seat) p c)
+          found_is =
+              ap₂ (λ n (z : Base). found_at (walk_found tree count (levels - 1) n z s) (walk_piece tree count (levels - 1) n z) z) part_there base_is
+
+          -- the next step of the walk
+          pub part_on : (inner : List (List Token)) → IsLeft i p c inner → (f : Found) (p' c' : ℕ) (inner' : List (List Token)) →
+              Some f ≡ there_found → p' ≡ f.proc → c' ≡ f.chan → inner' ≡ inner ++ f.pending ∷ [] → IsLeft (i + 1) p' c' inner'
+          part_on inner left f p' c' inner' e = left_on i p c inner left below f p' c' inner' (e ∙ found_is)
+
+          pub part_none : (inner : List (List Token)) → IsLeft i p c inner → None ≡ there_found →
+              None ≡ found_at (walk_found tree count levels k base s) (walk_piece tree count levels k base) base
+          part_none inner left e =
+              nothing_found (left_none i p c inner left below (found_none (founds (get_or seats i no_seat).part
+              (base_at (get_or seats i no_seat) p c)) _ _ (e ∙ found_is)))

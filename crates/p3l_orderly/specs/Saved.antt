@@ -4,7 +4,7 @@ use Rattle.std.specs.List.{All}
 use Rattle.p3l_net.specs.declared.shot.Own.{Own as SavedOwn}
 use Rattle.p3l_net.specs.declared.shot.Shot.{Shot}
 use Rattle.p3l_net.specs.Shot.{HasFewTags, own_of, token_of}
-use Rattle.p3l_orderly.specs.declared.snapshot.Snapshot.{Snapshot}
+use Rattle.p3l_template.specs.declared.snapshot.Snapshot.{Snapshot}
 
 -- no token has more tags than a token may have
 pub record HaveFewTags (shot : Shot) : Type 0 where

@@ -4,14 +4,10 @@ use Rattle.p3l_skel.specs.declared.tree.Tree.{Tree}
 use Rattle.p3l_skel.specs.Tree.{part_at}
 use Rattle.p3l_firing.specs.State.{State}
 use Rattle.p3l_firing.specs.declared.token.Token.{Token}
+use Rattle.p3l_template.specs.Finding.{Finding}
 use Rattle.p3l_template.specs.Shape.{Base, Seat}
-use Rattle.p3l_orderly.specs.Finding.{Finding, Finds, IsFoundShape}
 use Rattle.p3l_link.specs.Net.{Piece, base_at, piece_of}
-use Rattle.p3l_link.specs.Shape.{shape_at}
-
--- what the template of each node finds is what the linker's template of that node is
-pub record AreFound (tree : Tree) (count : ℕ → ℕ) (finds : ℕ → Finds) : Type 0 where
-  pub found : (k : ℕ) → IsFoundShape (shape_at tree count k) (finds k)
+use Rattle.p3l_link.specs.Shape.{kind_at, shape_at}
 
 -- all inner parts are orderly
 unfoldable pub all_found : List Finding → Bool
@@ -35,11 +31,11 @@ inner_found found piece (seat ∷ seats) p c =
     found seat.part (base_at seat p c) ∷ inner_found found piece seats (p + length here.procs) (c + length here.chans)
 
 -- what is found in node k, with all that is below it down to depth d
-unfoldable pub node_found : (ℕ → Finds) → Tree → (ℕ → ℕ) → (cap d k : ℕ) → Base → State → Finding
-node_found finds tree count cap zero k base s = record { orderly = true; pending = [] }
-node_found finds tree count cap (suc d) k base s =
+unfoldable pub node_found : Tree → (ℕ → ℕ) → (cap d k : ℕ) → Base → State → Finding
+node_found tree count cap zero k base s = record { orderly = true; pending = [] }
+node_found tree count cap (suc d) k base s =
     with_inner
-    (inner_found (λ v b. node_found finds tree count cap d (part_at tree k v) b s) (λ v. piece_of tree count cap d (part_at tree k v))
+    (inner_found (λ v b. node_found tree count cap d (part_at tree k v) b s) (λ v. piece_of tree count cap d (part_at tree k v))
     ((shape_at tree count k).seats base) (base.proc + length ((shape_at tree count k).procs base))
     (base.chan + (shape_at tree count k).chans base))
-    (finds k tree base s)
+    ((kind_at tree count k).finds tree base s)

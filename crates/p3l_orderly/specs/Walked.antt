@@ -5,13 +5,13 @@ use Rattle.p3l_firing.specs.State.{State}
 use Rattle.p3l_template.specs.Shape.{Base}
 use Rattle.p3l_link.specs.Net.{Piece, piece_of}
 use Rattle.p3l_orderly.specs.declared.walk.Found.{Found}
-use Rattle.p3l_orderly.specs.Finding.{Finding, Finds}
+use Rattle.p3l_template.specs.Finding.{Finding}
 use Rattle.p3l_orderly.specs.Walk.{node_found}
 
 -- what is found in a node, and what it places: of channels of capacity 1, since neither what is found nor the number of
 -- processes and channels depends on the capacity
-abbrev pub walk_found : (ℕ → Finds) → Tree → (ℕ → ℕ) → (d k : ℕ) → Base → State → Finding
-walk_found finds tree count d k base s = node_found finds tree count 1 d k base s
+abbrev pub walk_found : Tree → (ℕ → ℕ) → (d k : ℕ) → Base → State → Finding
+walk_found tree count d k base s = node_found tree count 1 d k base s
 
 abbrev pub walk_piece : Tree → (ℕ → ℕ) → (d k : ℕ) → Base → Piece
 walk_piece tree count d k base = piece_of tree count 1 d k base

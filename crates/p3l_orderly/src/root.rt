@@ -11,29 +11,26 @@ ghost use Rattle.p3l_skel.specs.Tree.{nesting};
 ghost use Rattle.p3l_firing.specs.Carried.{HaveInWords};
 ghost use Rattle.p3l_firing.specs.Nodes.{Leaf};
 ghost use Rattle.p3l_firing.specs.declared.net.Net.{Net};
+ghost use Rattle.p3l_template.specs.Finding.{if_orderly};
+ghost use Rattle.p3l_template.specs.Snapshot.{state_of};
 ghost use Rattle.p3l_link.specs.Net.{root_base};
-ghost use Rattle.p3l_orderly.specs.Finding.{if_orderly};
 ghost use Rattle.p3l_orderly.specs.Root.{IsOrderlyShot};
 ghost use Rattle.p3l_orderly.specs.Saved.{HaveFewTags};
-ghost use Rattle.p3l_orderly.specs.Snapshot.{state_of};
 ghost use Rattle.p3l_orderly.specs.Walked.{walk_found};
 
-use crate::orderly::Place;
 use crate::saved::snapshot_of;
-use crate::snapshot::Snapshot;
-use crate::templates::Templates;
-use crate::walk::{Table, find_in};
+use crate::walk::find_in;
 use p3l_base::{List, NoMemory, Words};
 use p3l_firing::Token;
 use p3l_net::Shot;
 use p3l_skel::tree::NESTING;
 use p3l_skel::{Counts, Tree};
+use p3l_template::{Place, Snapshot};
 use std::alloc::Global;
 
 // The tokens pending in the root, without their outcomes, if it is orderly.
-fn root_pending<T: Table>(
+fn root_pending(
     alloc: Global,
-    table: &T,
     tree: &Tree,
     counts: &Counts,
     snapshot: &Snapshot,
@@ -42,8 +39,8 @@ fn root_pending<T: Table>(
     requires counts { HasLawfulCounts tree.now counts.now.list }
     requires procs { procs tree.now counts.now.list 0 ≤ most_processes }
     ensures { IfGiven result (λ pending. pending
-        ≡ if_orderly (walk_found (T.finds table.now tree.now (count_of tree.now counts.now.list)) tree.now
-        (count_of tree.now counts.now.list) nesting 0 root_base (state_of snapshot.now))) }
+        ≡ if_orderly (walk_found tree.now (count_of tree.now counts.now.list) nesting 0 root_base
+        (state_of snapshot.now))) }
 {
     let root = Place {
         input: 0,
@@ -51,7 +48,7 @@ fn root_pending<T: Table>(
         proc: 2,
         chan: 2,
     };
-    match find_in(alloc, table, tree, counts, NESTING, 0, snapshot, &root)? {
+    match find_in(alloc, tree, counts, NESTING, 0, snapshot, &root)? {
         Some(found) => Ok(Some(found.pending)),
         None => Ok(None),
     }
@@ -84,33 +81,6 @@ fn is_balanced(shot: &Shot, snapshot: &Snapshot, pending: usize) -> bool
     shot.sent as u128 == shot.emitted as u128 + (after + (pending as u128 + before))
 }
 
-/// As `is_orderly`, by the templates of a table.
-pub fn is_orderly_by<T: Table>(
-    alloc: Global,
-    table: &T,
-    tree: &Tree,
-    counts: &Counts,
-    shot: &Shot,
-) -> Result<bool, NoMemory>
-    requires tree { IsLawfulTree tree.now }
-    requires counts { HasLawfulCounts tree.now counts.now.list }
-    requires procs { procs tree.now counts.now.list 0 ≤ most_processes }
-    requires tags { HaveFewTags shot.now }
-    ensures { IfGiven result (λ yes. (leaf : Leaf) (net : Net)
-        → length shot.now.chans ≡ length net.chans → IsTrue yes
-        ↔ IsOrderlyShot (record { tree = tree.now; leaf = leaf }) counts.now.list net
-        shot.now) }
-{
-    if !fits_root(tree, &shot.inbox) {
-        return Ok(false);
-    }
-    let snapshot = snapshot_of(alloc, shot)?;
-    match root_pending(alloc, table, tree, counts, &snapshot)? {
-        Some(pending) => Ok(is_balanced(shot, &snapshot, pending.len())),
-        None => Ok(false),
-    }
-}
-
 /// Returns true exactly if a run of the net of a tree under these counts can be in a state that
 /// was saved: the root is orderly, the item in the inbox has its in words, and each item sent was
 /// emitted or is still in the net. It is so whatever the `seq` modules make of words.
@@ -129,5 +99,12 @@ pub fn is_orderly(
         ↔ IsOrderlyShot (record { tree = tree.now; leaf = leaf }) counts.now.list net
         shot.now) }
 {
-    is_orderly_by(alloc, &Templates, tree, counts, shot)
+    if !fits_root(tree, &shot.inbox) {
+        return Ok(false);
+    }
+    let snapshot = snapshot_of(alloc, shot)?;
+    match root_pending(alloc, tree, counts, &snapshot)? {
+        Some(pending) => Ok(is_balanced(shot, &snapshot, pending.len())),
+        None => Ok(false),
+    }
 }

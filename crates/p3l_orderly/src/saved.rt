@@ -10,11 +10,11 @@ ghost use Rattle.p3l_net.specs.Shot.{CanRestore, HasFewTags, own_of, token_of};
 ghost use Rattle.p3l_net.specs.declared.shot.Shot.{Shot};
 ghost use Rattle.p3l_orderly.specs.Saved.{HaveFewTags, snapshot_of};
 
-use crate::snapshot::{Own, Snapshot};
 use p3l_base::{List, NoMemory, Outcome};
 use p3l_firing::{MOST_TAGS, Tags, Token};
 use p3l_net::{Own as SavedOwn, SavedToken, Shot};
 use p3l_skel::outcome::copied;
+use p3l_template::{Own, Snapshot};
 use std::alloc::Global;
 
 // Returns true exactly if no token has more tags than a token may have.

@@ -35,7 +35,7 @@ use Rattle.p3l_firing.proofs.LawfulForms.{loop_parts, map_part, reduce_part}
 use Rattle.p3l_template.specs.Shape.{Base, Seat}
 use Rattle.p3l_reduce.specs.Reduce.{fold_procs, join_procs, reduce_shape}
 use Rattle.p3l_link.specs.Net.{Piece, base_at, inner_pieces, linked_net, piece_of, root_base, root_piece}
-use Rattle.p3l_link.specs.Shape.{shape_at, shape_row}
+use Rattle.p3l_link.specs.Shape.{kind_at, kind_row, shape_at, shape_row}
 use Rattle.p3l_timed.specs.Price.{HasSmallPrices, len_of, part_ticks, price_of, run_price}
 
 -- the most work of a tree for one item
@@ -337,7 +337,7 @@ module _ (tree : Tree) (costs : Costs) (lawful : IsLawfulTree tree) (priced : Ar
   ]
 
   row_parts : (form : Form) (k parts n : ℕ) → (node_at tree k).form ≡ form → runs tree k ≤ work → HasFewParts k (shape_row form k parts n).seats
-  unfolding shape_row HasFewParts reduce_shape IsOpen
+  unfolding kind_row HasFewParts reduce_shape IsOpen
   row_parts Seq k parts n e few = inl (λ base. refl)
   row_parts Comp k parts n e few = inl (λ base. refl)
   row_parts Pipe k parts n e few = inr (open_at k Pipe e tt few)
@@ -356,7 +356,7 @@ module _ (tree : Tree) (costs : Costs) (lawful : IsLawfulTree tree) (priced : Ar
 
   row_prices : (form : Form) (k parts n : ℕ) (base : Base) → (node_at tree k).form ≡ form → runs tree k ≤ work
       → AllByRecursion SplitsSeveral ((shape_row form k parts n).procs base) → AllByRecursion IsSmall ((shape_row form k parts n).procs base)
-  unfolding shape_row IsSmall IsOpen
+  unfolding kind_row IsSmall IsOpen
   row_prices Seq k parts n base e few all = (unit_small k few, tt)
   row_prices Comp k parts n base e few all = (unit_small k few, tt)
   row_prices Pipe k parts n base e few all = tt
@@ -386,7 +386,7 @@ module _ (tree : Tree) (costs : Costs) (lawful : IsLawfulTree tree) (priced : Ar
 
   module _ (count : ℕ → ℕ) (cap : ℕ) where
     piece_small : (d k : ℕ) (base : Base) → runs tree k ≤ work → AllByRecursion SplitsSeveral (piece_of tree count cap d k base).procs → AllByRecursion IsSmall (piece_of tree count cap d k base).procs
-    unfolding piece_of shape_at IsSmall HasFewParts
+    unfolding piece_of kind_at IsSmall HasFewParts
     piece_small zero k base few all = (unit_small k few, tt)
     piece_small (suc d) k base few all =
         let shape = shape_at tree count k in

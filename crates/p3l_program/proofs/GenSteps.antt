@@ -10,7 +10,8 @@ use Rattle.p3l_cost.specs.declared.refusal.CostRefusal.TheVariants as costs
 use Rattle.p3l_cost.specs.File.{IsRead, Says}
 use Rattle.p3l_model.specs.Service.{service}
 use Rattle.p3l_alloc.specs.Chosen.{IsShort}
-use Rattle.p3l_opts.specs.Command.{HasItems}
+use Rattle.p3l_opts.specs.declared.word.TheConstants.{ITEMS}
+use Rattle.p3l_opts.specs.Command.{HasCount}
 use Rattle.p3l_run.specs.declared.end.RunEnd.{RunEnd}
 use Rattle.p3l_run.specs.declared.end.RunEnd.TheVariants as ends
 use Rattle.p3l_report.specs.declared.verdict.Refusal.TheVariants as refusal
@@ -99,8 +100,8 @@ module _ (text said : List ℕ) (processors : ℕ) (loaded : Allotted) (loads : 
       ((loads.r, a.comes.accepted), ((loads.r, loaded.costs, a.allotted.priced), ((loads.r, loaded.costs, loaded.choice.counts.list, a.allotted), tt)))
 
 -- there are few items
-pub items_few : (text : Option (List ℕ)) (items : ℕ) → HasItems text items → items ≤ 100000
-items_few None items h = omega arith
+pub items_few : (text : Option (List ℕ)) (items : ℕ) → HasCount ITEMS text items → items ≤ 100000
+items_few None items h = (let same : 1000 ≡ items = cc in omega (arith, same))
 items_few (Some text) items h = h.most_is
 
 -- only the end of a stream is whole

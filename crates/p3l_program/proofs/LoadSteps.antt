@@ -30,7 +30,7 @@ use Rattle.p3l_program.specs.Advise.{IsAdvised}
 use Rattle.p3l_program.specs.Certificate.{IsCertificate}
 use Rattle.p3l_program.specs.Explain.{IsExplained}
 use Rattle.p3l_program.specs.File.{HasText, text_limit}
-use Rattle.p3l_program.specs.Load.{IsCostless, IsLoaded, IsNotLoaded}
+use Rattle.p3l_program.specs.Load.{IsCostless, IsLoaded, IsNotLoaded, IsUnchosen}
 use Rattle.p3l_program.specs.Source.{ComesToTree}
 use Rattle.p3l_program.specs.Stage.{AllPass, Stage, build_stages, cost_stages, program_stages}
 use Rattle.p3l_program.specs.World.{Change, IsCalm}
@@ -83,9 +83,9 @@ module _ (files : Change Held) (name : List ℕ) (r : ResolvedTree) (program : A
   costs_pass = trees.costs_pass files name r program.tree text has (its_tree text r program comes)
 
 module _ (files : Change Held) (build : Build) (r : ResolvedTree) (program : Accepted) (text : List ℕ) (has : HasText files.old text_limit build.program text) (comes : ComesTo text r program) where
-  pub too_few : (said : Option (List ℕ)) → HasCostText files.old build.costs said → (cs : Costs) → AreSaid program.tree said cs → (need : ℕ) → IsShort program.tree build.processors need → IsCalm files →
-      IsNotLoaded files (build_stages build) (verdict.Refused (refusal.TooFew need))
-  too_few = trees.too_few files build r program.tree text has (its_tree text r program comes)
+  -- where no counts are chosen the stages of a build don't pass
+  pub unchosen : (v : Verdict) → IsUnchosen files build.costs program.tree build.processors v → IsNotLoaded files (build_stages build) v
+  unchosen = trees.unchosen files build r program.tree text has (its_tree text r program comes)
 
 module _ (build : Build) (r : ResolvedTree) (loaded : Allotted) where
   -- where all is loaded all stages of a build pass

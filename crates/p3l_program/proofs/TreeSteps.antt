@@ -1,5 +1,5 @@
 -- From an accepted text with its tree to the stages of its costs and its counts.
-use Rattle.std.proofs.Common.{◌≡◌, ℕ, List, [], ◌∷◌, ◌++◌, Option, Some, None, refl, ap, ◌∙◌, inl, inr, subst}
+use Rattle.std.proofs.Common.{◌≡◌, ℕ, List, [], ◌∷◌, ◌++◌, ◌⊎◌, Option, Some, None, refl, ap, ◌∙◌, inl, inr, subst, sym}
 use Rattle.std.specs.declared.result.Result.TheVariants.{Ok, Err}
 use Rattle.p3l_io.specs.Content.{Held}
 use Rattle.p3l_skel.specs.declared.tree.Tree.{Tree}
@@ -17,7 +17,7 @@ use Rattle.p3l_report.specs.declared.verdict.Verdict.TheVariants as verdict
 use Rattle.p3l_check.specs.Resolving.{ResolvedTree}
 use Rattle.p3l_program.specs.Plan.{AreSaid, HasCostText, HasCounts, IsPriced, IsUnsaid}
 use Rattle.p3l_program.specs.File.{HasText, text_limit}
-use Rattle.p3l_program.specs.Load.{IsCostless, IsNotLoaded}
+use Rattle.p3l_program.specs.Load.{IsCostless, IsNotLoaded, IsUnchosen, IsUnfit}
 use Rattle.p3l_program.specs.Source.{ComesToTree}
 use Rattle.p3l_program.specs.Stage.{AllPass, FilesCause, IsRefusedBy, Stage, build_stages, cost_stages, fitting, program_stages}
 use Rattle.p3l_program.specs.World.{Change, IsCalm}
@@ -116,6 +116,25 @@ module _ (files : Change Held) (build : Build) (r : ResolvedTree) (tree : Tree) 
               }))),
           calm,
         )
+
+  not_chosen : (v : Verdict) → IsCostless files build.costs tree v ⊎ IsUnfit files build.costs tree build.processors v → IsNotLoaded files (build_stages build) v
+  not_chosen v (inl h) = costless files build.program r tree text has comes build.costs (fitting build ∷ []) v h
+  not_chosen v (inr h) = subst (λ v. IsNotLoaded files (build_stages build) v) (sym h.verdict_is) (too_few h.loads.said h.loads.says h.cs h.loads.costs h.need h.short h.calm)
+
+  -- where no counts are chosen the stages of a build don't pass
+  pub unchosen : (v : Verdict) → IsUnchosen files build.costs tree build.processors v → IsNotLoaded files (build_stages build) v
+  unchosen (verdict.Refused refused) h = not_chosen (verdict.Refused refused) h
+  unchosen (verdict.Ended finish stats) h = not_chosen (verdict.Ended finish stats) h
+  unchosen verdict.WriteFault h = not_chosen verdict.WriteFault h
+  unchosen verdict.NoMemory h = h
+
+-- costs that aren't loaded are a cause of their own
+pub costless_unchosen : (files : Change Held) (costs : Option (List ℕ)) (tree : Tree) (processors : ℕ) (v : Verdict) → IsCostless files costs tree v → IsUnchosen files costs tree processors v
+costless_unchosen files costs tree processors (verdict.Refused refused) h = inl h
+costless_unchosen files costs tree processors (verdict.Ended finish stats) h = inl h
+costless_unchosen files costs tree processors verdict.WriteFault h = inl h
+costless_unchosen files None tree processors verdict.NoMemory h = h
+costless_unchosen files (Some name) tree processors verdict.NoMemory h = h
 
 module _ (files : Change Held) (build : Build) (r : ResolvedTree) (cs : Costs) (counts : List ℕ) (has : HasCounts files.old build r cs counts) where
   priced_pass : (costs said : Option (List ℕ)) → HasCostText files.old costs said → IsPriced has.text said r cs → AllPass files (cost_stages build.program costs)

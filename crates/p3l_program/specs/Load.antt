@@ -4,6 +4,7 @@ use Rattle.p3l_io.specs.Content.{Held}
 use Rattle.p3l_skel.specs.declared.tree.Tree.{Tree}
 use Rattle.p3l_cost.specs.declared.costs.Costs.{Costs}
 use Rattle.p3l_cost.specs.Costs.{AreCostsOf}
+use Rattle.p3l_alloc.specs.Chosen.{IsShort}
 use Rattle.p3l_model.specs.Service.{service}
 use Rattle.p3l_skel.specs.Counts.{HasLawfulCounts}
 use Rattle.p3l_skel.specs.Numbers.{procs}
@@ -82,6 +83,20 @@ IsCostless files (Some name) tree (verdict.Refused refused) =
     (Refuses files (readable text_limit name) refused × FilesCause refused files) ⊎ HasUnsaidCosts files name tree refused
 IsCostless files costs tree verdict.NoMemory = IsCalm files
 IsCostless files costs tree v = ⊥
+
+-- no counts of a tree, whose costs are loaded, fit this number of processors
+pub record IsUnfit (files : Change Held) (costs_file : Option (List ℕ)) (tree : Tree) (processors : ℕ) (v : Verdict) : Type 0 where
+  pub need : ℕ
+  pub verdict_is : v ≡ verdict.Refused (refusal.TooFew need)
+  pub cs : Costs
+  pub loads : LoadsCosts files.old costs_file tree cs
+  pub short : IsShort tree processors need
+  pub calm : IsCalm files
+
+-- why no counts are chosen for a tree
+abbrev pub IsUnchosen : Change Held → Option (List ℕ) → Tree → (processors : ℕ) → Verdict → Type 0
+IsUnchosen files costs tree processors verdict.NoMemory = IsCalm files
+IsUnchosen files costs tree processors v = IsCostless files costs tree v ⊎ IsUnfit files costs tree processors v
 
 -- a program with its costs and the counts that are chosen for it
 pub record IsLoaded (files : Option Held) (build : Build) (r : ResolvedTree) (loaded : Allotted) : Type 0 where

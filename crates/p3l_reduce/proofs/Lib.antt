@@ -1,2 +1,5 @@
 pub mod Placing
 pub mod Whole
+pub mod Segmenting
+pub mod MatchedSteps
+pub mod ReduceSteps

@@ -1,27 +1,22 @@
 -- What the loops that place the joins and the folds add, step by step.
-use Rattle.std.proofs.Common.{◌≡◌, ◌≢◌, ◌<◌, ◌≤◌, ◌+◌, ◌-◌, ◌/◌, replicate, length-append, append_assoc, append-nil, ◌*◌, ◌^◌, ℕ, zero, suc, List, [], ◌∷◌, ◌++◌, length, get_or, drop, drop-cons, ap, ap₂, ◌∙◌, refl, arith, lt-ltb, le-ltb}
+use Rattle.std.proofs.Common.{◌≡◌, ◌≢◌, ◌<◌, ◌≤◌, ◌+◌, ◌-◌, ◌/◌, replicate, length-append, append_assoc, append-nil, ◌*◌, ◌^◌, ℕ, zero, suc, List, [], ◌∷◌, ◌++◌, length, get_or, drop, drop-cons, ap, ap₂, ◌∙◌, refl, arith, inl, inr, lt-ltb, le-ltb}
 use Rattle.std.proofs.Math.Nat.{pow-succ'}
-use Rattle.std.proofs.lemmas.Bool.{cond-true, cond-false}
+use Rattle.std.proofs.lemmas.Bool.{cases_eq, cond-true, cond-false}
 use Rattle.std.proofs.lemmas.List.{length-replicate, replicate-append-replicate}
-use Rattle.std.proofs.lemmas.Nat.{pow_pos}
+use Rattle.std.proofs.lemmas.Nat.{pow_below, pow_pos}
 use Rattle.p3l_firing.specs.declared.net.Net.{Net}
 use Rattle.p3l_firing.specs.declared.process.Proc.{Proc}
 use Rattle.p3l_firing.specs.Segments.{halved, segment_lengths, level_up_to}
 use Rattle.p3l_reduce.specs.Reduce.{tee_by, join_at, fold_at, join_procs, fold_procs, tree_shape, reduce_shape}
 use Rattle.p3l_template.specs.Run.{run_shape}
-use Rattle.p3l_template.specs.Shape.{empty_chan, added}
+use Rattle.p3l_reduce.specs.laws.ReduceLaw.{tree_procs}
+use Rattle.p3l_template.specs.Shape.{Base, empty_chan, added}
 
 pub tee_low : (output from q : ℕ) → q < 2 → output ≡ tee_by output from q
 unfolding tee_by
 tee_low output from zero h = refl
 tee_low output from (suc zero) h = refl
 tee_low output from (suc (suc q)) h = absurd (omega arith)
-
-pub tee_high : (output from q : ℕ) → 2 ≤ q → from + (q - 2) ≡ tee_by output from q
-unfolding tee_by
-tee_high output from zero h = absurd (omega arith)
-tee_high output from (suc zero) h = absurd (omega arith)
-tee_high output from (suc (suc q)) h = omega arith
 
 pub joins_step : (node output from q m : ℕ) → q < m →
     join_procs node output from q (m - q)
@@ -96,6 +91,13 @@ power_wide zero h = absurd (omega arith)
 power_wide (suc level) h = let two : 2 ^ suc level ≡ 2 * 2 ^ level = pow-succ' 2 level in
     let some : 0 < 2 ^ level = pow_pos level in omega arith
 
+pub power_small : (level : ℕ) → level ≤ 9 → 2 ^ level ≤ 512
+power_small level l =
+    elim (cases_eq level 9) [
+      | inl e ↦ let p : 2 ^ level ≡ 2 ^ 9 = ap (λ z. 2 ^ z) e in let n : 2 ^ 9 ≡ 512 = refl in omega (arith, p, n)
+      | inr e ↦ let p : 2 ^ level < 2 ^ 9 = pow_below level 9 (omega (arith, l, e)) in let n : 2 ^ 9 ≡ 512 = refl in omega (arith, p, n)
+    ]
+
 -- n channels more
 pub more_chans : (b b' : Net) (n cap : ℕ) →
     b' ≡ record { procs = b.procs; chans = b.chans ++ replicate n (empty_chan cap) } → length b'.chans ≡ length b.chans + n
@@ -136,3 +138,27 @@ pub shape_tree : (node len level : ℕ) → level ≢ 0 →
 unfolding reduce_shape
 shape_tree node len zero h = absurd (h refl)
 shape_tree node len (suc d) h = ap (λ z. tree_shape node (2 ^ suc d) z len) {x = d} {y = suc d - 1} (omega arith)
+
+-- how many processes and channels it has at a level
+pub one_proc : (node len level : ℕ) → level ≡ 0 → (base : Base) → length ((reduce_shape node len level).procs base) ≡ 1
+one_proc node len level e base = ap (λ shape. length (shape.procs base)) (shape_one node len level e)
+
+pub no_chans : (node len level : ℕ) → level ≡ 0 → (base : Base) → (reduce_shape node len level).chans base ≡ 0
+no_chans node len level e base = ap (λ shape. shape.chans base) (shape_one node len level e)
+
+pub many_procs : (node len level : ℕ) → level ≢ 0 → (base : Base) →
+    length ((reduce_shape node len level).procs base) ≡ 2 ^ level + 2 ^ level
+many_procs node len level h base =
+    let more : level ≡ suc (level - 1) = omega (arith, h) in
+    ap (λ shape. length (shape.procs base)) (shape_tree node len level h)
+    ∙ tree_procs node (2 ^ level) (level - 1) len (ap (λ z. 2 ^ z) more) base
+
+pub many_chans : (node len level : ℕ) → level ≢ 0 → (base : Base) →
+    (reduce_shape node len level).chans base ≡ 2 ^ level + (2 ^ level + 2 ^ level - 2)
+many_chans node len level h base = ap (λ shape. shape.chans base) (shape_tree node len level h)
+
+-- it has no inner parts
+pub no_seats : (node len level : ℕ) (base : Base) → (reduce_shape node len level).seats base ≡ []
+unfolding reduce_shape
+no_seats node len zero base = refl
+no_seats node len (suc d) base = refl

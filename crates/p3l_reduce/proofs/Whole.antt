@@ -12,6 +12,7 @@ use Rattle.p3l_reduce.specs.JoinTree.{Folding, joined, leaf_of}
 use Rattle.p3l_skel.specs.Fold.{combined, tree_fold, segments}
 use Rattle.p3l_reduce.specs.Meaning.{JoinsFoldTheWhole}
 use Rattle.p3l_template.specs.Shape.{numbers_from}
+use Rattle.p3l_template.specs.laws.TimesLaw.{numbers_append}
 
 -- the fold of two lists of one length
 tree_fold-pair : (operator : List ℤ → Outcome) (n : ℕ) (xs ys : List Outcome) → 1 ≤ n → length xs ≡ n →
@@ -21,12 +22,6 @@ tree_fold-pair operator n xs ys some left right =
     let half : length (xs ++ ys) / 2 ≡ length xs = omega (arith, length-append xs ys) in
     let folded = tree_fold-halves operator (xs ++ ys) several in
     rw (half, take-append_seam xs ys, drop-append_seam xs ys) at folded
-
-numbers_append : (c n k : ℕ) → numbers_from c (n + k) ≡ numbers_from c n ++ numbers_from (c + n) k
-unfolding numbers_from
-numbers_append c zero k = ap₂ numbers_from {x = c} {y = c + 0} (omega arith) (omega arith)
-numbers_append c (suc n) k = let e : suc n + k ≡ suc (n + k) = omega arith in
-    ap (numbers_from c) e ∙ ap (λ z. c ∷ z) (numbers_append (suc c) n k ∙ ap (λ z. numbers_from (suc c) n ++ numbers_from z k) (omega arith))
 
 map_by : (f h : ℕ → Outcome) (c n : ℕ) → ((i : ℕ) → c ≤ i → i < c + n → f i ≡ h i) → map f (numbers_from c n) ≡ map h (numbers_from c n)
 unfolding numbers_from

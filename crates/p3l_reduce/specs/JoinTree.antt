@@ -1,6 +1,6 @@
 -- The values of a reduce by a tree of joins. Its joins are numbered as a heap: join q has 2 q and 2 q + 1 below it, the
 -- segments are the places m to 2 m - 1, and the channel T q leads from place q to the join above it.
-use Rattle.std.specs.Prelude.{ℕ, zero, suc, ◌+◌, ◌-◌, ◌*◌, Bool, true, false, ◌&&◌, cond, nat_lt, List, [], ◌∷◌, ◌++◌, map, length, nat_eq}
+use Rattle.std.specs.Prelude.{ℕ, zero, suc, ◌+◌, ◌-◌, ◌*◌, Bool, true, false, ◌&&◌, cond, nat_lt, List, [], ◌∷◌, ◌++◌, map, length}
 use Rattle.p3l_base.specs.declared.outcome.Outcome.{Outcome}
 use Rattle.p3l_firing.specs.Token.{over, same_tags}
 use Rattle.p3l_firing.specs.declared.token.Token.{Token}

@@ -1,4 +1,5 @@
 pub mod JoinTree
 pub mod Reduce
+pub mod ReduceKind
 pub mod Meaning
 pub mod laws

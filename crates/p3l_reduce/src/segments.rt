@@ -1,6 +1,6 @@
 // The segments that a token is cut into.
 
-ghost use Rattle.std.specs.Prelude.{◌≡◌, ◌≤◌};
+ghost use Rattle.std.specs.Prelude.{◌≡◌, ◌≤◌, ◌^◌};
 ghost use Rattle.p3l_base.specs.Memory.{IfGiven};
 ghost use Rattle.p3l_firing.specs.Segments.{halved, segment_lengths, level_up_to};
 
@@ -19,6 +19,15 @@ pub(crate) fn level_within(most: u32, segments: u32) -> u32
     } else {
         1 + level_within(most - 1, segments / 2)
     }
+}
+
+/// The number of segments that are halved `level` times: 2 to its power.
+pub(crate) fn segment_count(level: u32) -> u32
+    requires { level ≤ 9 }
+    ensures value { result ≡ 2 ^ level }
+    ensures few { result ≤ 512 }
+{
+    1 << level
 }
 
 // Each length cut into its first half, rounded down, and the rest.

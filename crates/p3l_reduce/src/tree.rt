@@ -12,9 +12,9 @@ use p3l_template::builder::one_channel;
 use p3l_template::{Builder, Ports};
 use std::alloc::Global;
 
-// The channel that leads up from place q: the channels of the places from 2 on have the numbers
-// from `from` on.
-fn tee(output: u32, from: u32, q: u32) -> u32
+/// The channel that leads up from place q: the channels of the places from 2 on have the numbers
+/// from `from` on.
+pub(crate) fn tee(output: u32, from: u32, q: u32) -> u32
     requires { from + q < 2 ^ 32 }
     ensures { result ≡ tee_by output from q }
 {

@@ -13,14 +13,14 @@ use Rattle.p3l_firing.specs.Widths.{AllCarry, Carries, Widths}
 use Rattle.p3l_template.specs.Pipe.{pipe_shape, stage_seats}
 use Rattle.p3l_template.specs.Run.{run_shape}
 use Rattle.p3l_template.specs.Shape.{Base, Seat, Shape, fan_seats, no_seat, numbers_from}
+use Rattle.p3l_template.specs.Width.{ins_width, no_width, outs_width, stage_widths, worker_widths}
+use Rattle.p3l_template.specs.declared.width.Width.{Width}
 use Rattle.p3l_template.specs.laws.Fan.{fan_at, fan_length}
 use Rattle.p3l_template.specs.laws.PipeTyping.{stage_part, stages_length}
 use Rattle.p3l_template.specs.laws.TimesLaw.{all_numbers}
 use Rattle.p3l_farm.specs.Farm.{farm_shape}
 use Rattle.p3l_map.specs.MapShape.{map_shape}
 use Rattle.p3l_loop.specs.Loop.{loop_shape}
-use Rattle.p3l_fitting.specs.Widths.{ins_width, no_width, outs_width, stage_widths, worker_widths}
-use Rattle.p3l_fitting.specs.declared.width.Width.{Width}
 use Rattle.p3l_resume_laws.proofs.Rows.{CarryRow, number_at, row_append, row_same}
 
 -- all these processes fit between channels of these widths

@@ -11,15 +11,15 @@ use Rattle.p3l_firing.specs.Typed.{IsTyped}
 use Rattle.p3l_firing.specs.Widths.{Carries, Widths}
 use Rattle.p3l_template.specs.Placed.{AreLaid, AreStanding}
 use Rattle.p3l_template.specs.Units.{Units}
+use Rattle.p3l_template.specs.Width.{width_at}
+use Rattle.p3l_template.specs.declared.width.Width.{Width}
 use Rattle.p3l_link.specs.Laws.{IsLinkable, net_of}
 use Rattle.p3l_link.specs.Net.{linked_net, root_base, root_piece}
 use Rattle.p3l_link.specs.Part.{root_part}
 use Rattle.p3l_link.proofs.Counted.{root_counted}
 use Rattle.p3l_fitting.specs.Restoring.{AgreeOn}
 use Rattle.p3l_fitting.specs.Survey.{linked_loops, linked_survey, linked_widths, node_survey}
-use Rattle.p3l_fitting.specs.Widths.{width_at}
-use Rattle.p3l_fitting.specs.declared.width.Width.{Width}
-use Rattle.p3l_resume_laws.proofs.Forced.{piece_forced}
+use Rattle.p3l_fitting.proofs.Sized.{node_sized}
 use Rattle.p3l_resume_laws.proofs.LoopAt.{IsAt, IsFewAt, IsLoopAt}
 use Rattle.p3l_resume_laws.proofs.Places.{AllFrom, places}
 use Rattle.p3l_resume_laws.proofs.Rows.{CarryRow}
@@ -75,11 +75,11 @@ module _ (units : Units) (counts : List ℕ) (cap : ℕ) (l : IsLinkable units c
   unfolding linked_net
   root_ends = omega arith
 
-  root_row : CarryRow typed.widths 2 (node_survey units.tree count nesting 0 0 2 2).widths
+  root_row : CarryRow typed.widths 2 (node_survey units.tree count nesting 0 0 root_base).widths
   unfolding linked_survey root_piece
   root_row =
-      let rows : List Width = (node_survey units.tree count nesting 0 0 2 2).widths in
-      let many = (piece_forced units.tree count cap typed.lawful nesting 0 root_base 0 2 2 (root_counted units.tree counts typed.lawful l.fit)).count in
+      let rows : List Width = (node_survey units.tree count nesting 0 0 root_base).widths in
+      let many = (node_sized units.tree count cap typed.lawful nesting 0 0 root_base (root_counted units.tree counts typed.lawful l.fit)).chans in
       let ends = root_ends in
       row_from typed.widths 2 rows (λ i low.
       let here : 2 + i ≡ suc (suc i) = omega arith in

@@ -21,6 +21,8 @@ use Rattle.p3l_template.specs.Part.{Part, no_part}
 use Rattle.p3l_template.specs.Placed.{AreLaid, AreStanding, IsGoodBase}
 use Rattle.p3l_template.specs.Shape.{Base, Role, Shape, no_seat, numbers_from}
 use Rattle.p3l_template.specs.Units.{Units}
+use Rattle.p3l_template.specs.Width.{width_at}
+use Rattle.p3l_template.specs.declared.width.Width.{Width}
 use Rattle.p3l_template.specs.laws.Row.{numbers_at, numbers_length}
 use Rattle.p3l_template.specs.laws.TimesLaw.{all_numbers}
 use Rattle.p3l_loop.specs.Loop.{Laps, View, bag, head_proc, laps_of, loop_shape, settled, tail_proc, view_of, well_kept}
@@ -28,13 +30,11 @@ use Rattle.p3l_loop.specs.laws.ViewLaw.{Kept, kept_to}
 use Rattle.p3l_link.specs.Counts.{IsCounted}
 use Rattle.p3l_link.specs.Net.{Piece, inner_pieces, piece_of, whole_piece}
 use Rattle.p3l_link.specs.Part.{inner_parts, part_of, role_of, whole_part}
-use Rattle.p3l_link.specs.Shape.{shape_at, shape_row}
+use Rattle.p3l_link.specs.Shape.{kind_at, kind_row, shape_at, shape_row}
 use Rattle.p3l_link.proofs.Counted.{counted_there, seat_counted}
 use Rattle.p3l_net.specs.Fitting.{LoopPlace, most_tokens}
 use Rattle.p3l_net.proofs.Sides.{one_has}
 use Rattle.p3l_fitting.specs.Survey.{loop_place, node_survey}
-use Rattle.p3l_fitting.specs.Widths.{width_at}
-use Rattle.p3l_fitting.specs.declared.width.Width.{Width}
 use Rattle.p3l_link.proofs.Once.{HasOnce, HaveOnce, inner_once}
 use Rattle.p3l_resume_laws.proofs.Ends.{piece_once}
 use Rattle.p3l_resume_laws.proofs.Rows.{CarryRow, row_at}
@@ -123,7 +123,7 @@ module _ (net : Net) (units : Units) (count : ℕ → ℕ) (cap : ℕ) (typed : 
     pub procs : AreStanding net base.proc (piece_of units.tree count cap d k base).procs
     pub chans : AreLaid net base.chan (piece_of units.tree count cap d k base).chans
     pub inside : base.chan + length (piece_of units.tree count cap d k base).chans ≤ length net.chans
-    pub row : CarryRow typed.widths base.chan (node_survey units.tree count d k t base.proc base.chan).widths
+    pub row : CarryRow typed.widths base.chan (node_survey units.tree count d k t base).widths
     pub orderly : (s : State) → Above s → (part_of units count d k base).orderly s ≡ true
 
   -- in a state a loop's credits and the numbers of its head and its tail agree, and no more tokens are held than there are credits
@@ -172,7 +172,7 @@ module _ (net : Net) (units : Units) (count : ℕ → ℕ) (cap : ℕ) (typed : 
     place = placed whole
 
     shape_is : shape_at units.tree count k ≡ shape
-    unfolding shape_at shape_row
+    unfolding kind_at kind_row
     shape_is = ap (λ form. shape_row form k (length (node_at units.tree k).parts) (count k)) is
 
     whole_is : piece_of units.tree count cap (suc d) k base ≡ whole
@@ -306,7 +306,7 @@ module _ (net : Net) (units : Units) (count : ℕ → ℕ) (cap : ℕ) (typed : 
 
     -- the tags of what is within
     abbrev rows : List Width
-    rows = (node_survey units.tree count (suc d) k t base.proc base.chan).widths
+    rows = (node_survey units.tree count (suc d) k t base).widths
 
     -- one for each channel, each of them two tags deeper than outside
     pub record AreRowsOfLoop : Type 0 where

@@ -4,15 +4,10 @@ use Rattle.std.proofs.Common.{◌≡◌, ◌≢◌, ℕ, zero, suc, ◌+◌, ◌
 use Rattle.std.specs.List.{AllByRecursion}
 use Rattle.std.proofs.lemmas.Bool.{and_from, and_parts}
 use Rattle.std.proofs.lemmas.List.{get_or-append-add, get_or_append_left}
-use Rattle.std.proofs.lemmas.List.Sums.{sum_by-cons}
-use Rattle.p3l_skel.specs.Counts.{outside_parts}
 use Rattle.p3l_skel.specs.declared.tree.Form.{Form}
 use Rattle.p3l_skel.specs.declared.tree.Form.TheVariants.{Seq, Comp, Pipe, Farm, Map, Reduce, Loop}
 use Rattle.p3l_skel.specs.declared.tree.Tree.{Tree}
-use Rattle.p3l_skel.specs.Numbers.{procs_by, procs_row}
 use Rattle.p3l_skel.specs.Tree.{node_at, part_at}
-use Rattle.p3l_skel.proofs.Below.{procs_by-step}
-use Rattle.p3l_skel.proofs.Depth.{lawful_at}
 use Rattle.p3l_firing.specs.declared.net.Chan.{Chan}
 use Rattle.p3l_firing.specs.declared.net.Net.{Net}
 use Rattle.p3l_firing.specs.declared.process.Proc.{Proc}
@@ -23,28 +18,30 @@ use Rattle.p3l_firing.specs.Typed.{IsTyped}
 use Rattle.p3l_firing.specs.Widths.{Widths}
 use Rattle.p3l_template.specs.Part.{Part, all_orderly}
 use Rattle.p3l_template.specs.Placed.{AreLaid, AreStanding, IsGoodBase, IsLawfulShape}
+use Rattle.p3l_template.specs.Kind.{Kind}
 use Rattle.p3l_template.specs.Shape.{Base, Role, Seat, Shape, no_seat}
 use Rattle.p3l_template.specs.Units.{Units}
+use Rattle.p3l_template.specs.Width.{width_at}
+use Rattle.p3l_template.specs.declared.width.Width.{Width}
 use Rattle.p3l_template.specs.laws.Row.{stands_split}
+use Rattle.p3l_loop.specs.LoopKind.{loop_kind, loop_widths}
 use Rattle.p3l_reduce.specs.Reduce.{fold_procs, join_procs, reduce_shape}
 use Rattle.p3l_link.specs.Counts.{IsCounted}
 use Rattle.p3l_link.specs.Laws.{IsPartAt}
 use Rattle.p3l_link.specs.Net.{Piece, base_at, inner_pieces, piece_of, whole_piece}
 use Rattle.p3l_link.specs.Part.{inner_parts, part_of, role_of, whole_part}
-use Rattle.p3l_link.specs.Shape.{shape_at, shape_row}
+use Rattle.p3l_link.specs.Shape.{kind_at, kind_row, shape_at, shape_row}
 use Rattle.p3l_link.proofs.Counted.{counted_own, counted_there, seat_counted, shape_lawful}
-use Rattle.p3l_link.proofs.Size.{piece_sized}
 use Rattle.p3l_link.proofs.Sound.{sound}
+use Rattle.p3l_link.proofs.Typing.{widths_counted}
 use Rattle.p3l_net.specs.Fitting.{LoopPlace}
-use Rattle.p3l_fitting.specs.Survey.{inner_survey, loop_place, node_survey, own_loops, own_procs}
-use Rattle.p3l_fitting.specs.Widths.{copies, copy_count, deeper, own_widths, seat_nodes, width_at}
+use Rattle.p3l_fitting.specs.Survey.{inner_survey, loop_place, node_survey, own_loops, survey_inside}
 use Rattle.p3l_fitting.specs.declared.survey.Survey.{Survey}
-use Rattle.p3l_fitting.specs.declared.width.Width.{Width}
-use Rattle.p3l_resume_laws.proofs.Forced.{IsForcedRow, nodes_of, piece_forced, row_forced}
+use Rattle.p3l_fitting.proofs.Sized.{IsSized, node_sized}
 use Rattle.p3l_resume_laws.proofs.Lists.{all_append}
 use Rattle.p3l_resume_laws.proofs.LoopAt.{AreRowsOfLoop, IsAt, IsFewAt, IsLoopAt, loop_at, tail_few}
 use Rattle.p3l_resume_laws.proofs.Rows.{CarryRow}
-use Rattle.p3l_resume_laws.proofs.Surveyed.{IsDeep, inner_deep, loop_deep, row_sum, survey_deep, survey_procs}
+use Rattle.p3l_resume_laws.proofs.Surveyed.{IsDeep, inner_deep, loop_deep, survey_deep}
 
 -- LISTS
 
@@ -117,7 +114,7 @@ reduce_orderly part k len (suc d) base p c s = refl
 row_orderly : (units : Units) (roles : ℕ → Role) (part : ℕ → Base → Part) (k n : ℕ) (parts : List ℕ) (base : Base) (s : State)
     (form : Form) → (whole_part (shape_row form k (length parts) n) units roles part base).orderly s ≡ true →
     all_orderly (inner_parts part ((shape_row form k (length parts) n).seats base) (base.proc + length ((shape_row form k (length parts) n).procs base)) (base.chan + (shape_row form k (length parts) n).chans base)) s ≡ true
-unfolding shape_row inner_parts all_orderly
+unfolding kind_row inner_parts all_orderly
 row_orderly units roles part k n parts base s Seq h = refl
 row_orderly units roles part k n parts base s Comp h = refl
 row_orderly units roles part k n parts base s Pipe h = h
@@ -155,15 +152,9 @@ module _ (net : Net) (units : Units) (count : ℕ → ℕ) (cap : ℕ) (pos : 0 
     pub tails : Tails p procs
 
   -- what is surveyed has as many channels, and as many processes, as are placed
-  piece_chans : (d k t p c : ℕ) (base : Base) → IsCounted units.tree count d k →
-      length (node_survey units.tree count d k t p c).widths ≡ length (piece d k base).chans
-  piece_chans d k t p c base h = (piece_forced units.tree count cap typed.lawful d k base t p c h).count
-
-  piece_procs : (d k t p c : ℕ) (base : Base) → IsCounted units.tree count d k →
-      (node_survey units.tree count d k t p c).procs ≡ length (piece d k base).procs
-  piece_procs d k t p c base h =
-      let placed = (piece_sized units.tree count cap d k base typed.lawful h).procs in
-      survey_procs units.tree count d k t p c ∙ sym placed
+  piece_size : (d k t : ℕ) (base : Base) → IsCounted units.tree count d k →
+      IsSized (piece d k base) (node_survey units.tree count d k t base)
+  piece_size d k t base h = node_sized units.tree count cap typed.lawful d k t base h
 
   -- a seat between channels below `low`, of which the second has room for a token
   record IsUsable (low : ℕ) (x : Seat) : Type 0 where
@@ -173,15 +164,15 @@ module _ (net : Net) (units : Units) (count : ℕ → ℕ) (cap : ℕ) (pos : 0 
     room : 0 < (chan_at net x.output).cap
 
   -- INNER PARTS of node k, where outside them tokens have t tags
-  module _ (d k t : ℕ) (each : (j : ℕ) (b : Base) → At d j t b → HasPlaces (node_survey units.tree count d j t b.proc b.chan).loops b.proc (piece d j b).procs) (low : ℕ) where
+  module _ (d k t : ℕ) (each : (j : ℕ) (b : Base) → At d j t b → HasPlaces (node_survey units.tree count d j t b).loops b.proc (piece d j b).procs) (low : ℕ) where
     abbrev f : ℕ → Base → Piece
     f v = piece d (part_at units.tree k v)
 
     abbrev parts : ℕ → Base → Part
     parts v = part d (part_at units.tree k v)
 
-    abbrev g : ℕ → (p c : ℕ) → Survey
-    g j p c = node_survey units.tree count d j t p c
+    abbrev g : ℕ → Base → Survey
+    g v b = node_survey units.tree count d (part_at units.tree k v) t b
 
     record AreAt (xs : List Seat) (p c : ℕ) : Type 0 where
       counted : (v : ℕ) → v < length xs → IsCounted units.tree count d (part_at units.tree k (get_or xs v no_seat).part)
@@ -190,23 +181,23 @@ module _ (net : Net) (units : Units) (count : ℕ → ℕ) (cap : ℕ) (pos : 0 
       procs : AreStanding net p (inner_pieces f xs p c).procs
       chans : AreLaid net c (inner_pieces f xs p c).chans
       inside : c + length (inner_pieces f xs p c).chans ≤ length net.chans
-      row : CarryRow w c (inner_survey g (nodes_of units.tree k xs) p c).widths
+      row : CarryRow w c (inner_survey g xs p c).widths
       orderly : (s : State) → Above s → all_orderly (inner_parts parts xs p c) s ≡ true
 
     inner_places : (xs : List Seat) (p c : ℕ) → AreAt xs p c →
-        HasPlaces (inner_survey g (nodes_of units.tree k xs) p c).loops p (inner_pieces f xs p c).procs
+        HasPlaces (inner_survey g xs p c).loops p (inner_pieces f xs p c).procs
     unfolding inner_pieces inner_survey inner_parts all_orderly
     inner_places [] p c at = record { loops = tt; tails = tt }
     inner_places (x ∷ xs) p c at =
         let b : Base = base_at x p c in
         let j : ℕ = part_at units.tree k x.part in
         let F : Piece = f x.part b in
-        let S : Survey = g j p c in
-        let nodes : List ℕ = nodes_of units.tree k xs in
+        let S : Survey = g x.part b in
         let G : Piece = inner_pieces f xs (p + length F.procs) (c + length F.chans) in
         let counted = at.counted 0 (omega arith) in
-        let long : length S.widths ≡ length F.chans = piece_chans d j t p c b counted in
-        let many : S.procs ≡ length F.procs = piece_procs d j t p c b counted in
+        let sized = piece_size d j t b counted in
+        let long : length S.widths ≡ length F.chans = sized.chans in
+        let many : S.procs ≡ length F.procs = sized.procs in
         let usable = at.usable 0 (omega arith) in
         let after = at.after in
         let input = usable.input in
@@ -216,7 +207,7 @@ module _ (net : Net) (units : Units) (count : ℕ → ℕ) (cap : ℕ) (pos : 0 
         let good : IsGoodBase net b = record { input = omega (arith, input, after); output = omega (arith, output, after); apart = usable.apart; room = usable.room } in
         let ss = stands_split net p F.procs G.procs at.procs in
         let oo = laid_split net c F.chans G.chans at.chans in
-        let more : Survey = inner_survey g nodes (p + S.procs) (c + length S.widths) in
+        let more : Survey = inner_survey g xs (p + S.procs) (c + length S.widths) in
         let rr = row_split w c S.widths more.widths at.row in
         let is : IsPartAt net units (role_of units count d j) b F (parts x.part b) = sound net units typed.lawful count cap pos d j b counted good ss.0 oo.0 in
         let here : At d j t b = record {
@@ -235,7 +226,7 @@ module _ (net : Net) (units : Units) (count : ℕ → ℕ) (cap : ℕ) (pos : 0 
           procs = ss.1;
           chans = oo.1;
           inside = omega (arith, inside, all);
-          row = subst₂ (λ m n. CarryRow w (c + n) (inner_survey g nodes (p + m) (c + n)).widths) many long rr.1;
+          row = subst₂ (λ m n. CarryRow w (c + n) (inner_survey g xs (p + m) (c + n)).widths) many long rr.1;
           orderly = λ s above.
               subst₂ (λ y z. all_orderly (inner_parts parts xs y z) s ≡ true) is.proc_to is.chan_to (and_parts _ _ (at.orderly s above)).1;
         } in
@@ -243,47 +234,26 @@ module _ (net : Net) (units : Units) (count : ℕ → ℕ) (cap : ℕ) (pos : 0 
         let others = inner_places xs (p + length F.procs) (c + length F.chans) rest in
         record {
           loops = all_append _ S.loops more.loops one.loops
-              (subst₂ (λ m n. Loops (inner_survey g nodes (p + m) (c + n)).loops) (sym many) (sym long) others.loops);
+              (subst₂ (λ m n. Loops (inner_survey g xs (p + m) (c + n)).loops) (sym many) (sym long) others.loops);
           tails = from_append _ p F.procs G.procs one.tails others.tails;
         }
 
-  -- as many processes are inside as are counted
-  inner_count : (d k : ℕ) (xs : List Seat) (p c : ℕ) →
-      ((v : ℕ) → v < length xs → IsCounted units.tree count d (part_at units.tree k (get_or xs v no_seat).part))
-      → length (inner_pieces (λ v. piece d (part_at units.tree k v)) xs p c).procs ≡ sum_by (procs_by units.tree count d)
-      (nodes_of units.tree k xs)
-  unfolding inner_pieces
-  inner_count d k [] p c counted = refl
-  inner_count d k (x ∷ xs) p c counted =
-      let F : Piece = piece d (part_at units.tree k x.part) (base_at x p c) in
-      let G : Piece = inner_pieces (λ v. piece d (part_at units.tree k v)) xs (p + length F.procs) (c + length F.chans) in
-      let here = (piece_sized units.tree count cap d (part_at units.tree k x.part) (base_at x p c) typed.lawful (counted 0 (omega arith))).procs in
-      let rest = inner_count d k xs (p + length F.procs) (c + length F.chans) (λ v l. counted (suc v) (omega (arith, l))) in
-      omega (arith, length-append F.procs G.procs, here, rest, sum_by-cons (procs_by units.tree count d) (part_at units.tree k x.part) (nodes_of units.tree k xs))
-
   -- A LOOP'S ROWS
-  loop_rows : (d k t p c turns tokens : ℕ) (f : Form) → f ≡ Loop turns tokens → AllByRecursion (IsDeep (t + 2))
-      (own_widths units.tree k (count k) t f (node_at units.tree k).parts
-      ++ (inner_survey (λ q p c. node_survey units.tree count d q (t + deeper f) p c) (copies (copy_count f (count k)) (outside_parts f (node_at units.tree k).parts))
-      (p + own_procs f (count k)) (c + length (own_widths units.tree k (count k) t f (node_at units.tree k).parts))).widths)
-  loop_rows d k t p c turns tokens f is =
-      subst (λ z. AllByRecursion (IsDeep (t + 2))
-      (own_widths units.tree k (count k) t z (node_at units.tree k).parts
-      ++ (inner_survey (λ q p c. node_survey units.tree count d q (t + deeper z) p c) (copies (copy_count z (count k)) (outside_parts z (node_at units.tree k).parts))
-      (p + own_procs z (count k)) (c + length (own_widths units.tree k (count k) t z (node_at units.tree k).parts))).widths)) (sym is)
-      (all_append (IsDeep (t + 2)) (own_widths units.tree k (count k) t (Loop turns tokens) (node_at units.tree k).parts) _
-      (loop_deep units.tree k (count k) t turns tokens (node_at units.tree k).parts)
-      (inner_deep (t + 2) (λ q p c. node_survey units.tree count d q (t + 2) p c) (λ q p c. survey_deep units.tree count d q (t + 2) p c) _ _ _))
+  loop_is : (k turns tokens : ℕ) → (node_at units.tree k).form ≡ Loop turns tokens → kind_at units.tree count k ≡ loop_kind k tokens
+  unfolding kind_at kind_row
+  loop_is k turns tokens is = ap (λ f. kind_row f k (length (node_at units.tree k).parts) (count k)) is
 
-  first_own : (k n t turns tokens : ℕ) (parts : List ℕ) (more : List Width) →
-      (width_at (own_widths units.tree k n t (Loop turns tokens) parts ++ more) 0).tags ≡ t + 2
-  unfolding own_widths
-  first_own k n t turns tokens parts more = refl
+  -- what is surveyed of node k, if it is of this kind
+  abbrev rows_of : Kind → (d k t : ℕ) → Base → List Width
+  rows_of kind d k t base =
+      kind.widths units.tree k t
+      ++ (survey_inside kind (kind.widths units.tree k t) base (λ v. node_survey units.tree count d (part_at units.tree k v) (t + kind.deeper))).widths
 
-  first_row : (k n t turns tokens : ℕ) (f : Form) (parts : List ℕ) (more : List Width) → f ≡ Loop turns tokens →
-      (width_at (own_widths units.tree k n t f parts ++ more) 0).tags ≡ t + 2
-  first_row k n t turns tokens f parts more is =
-      subst (λ z. (width_at (own_widths units.tree k n t z parts ++ more) 0).tags ≡ t + 2) (sym is) (first_own k n t turns tokens parts more)
+  loop_rows : (d k t tokens : ℕ) (base : Base) → AllByRecursion (IsDeep (t + 2)) (rows_of (loop_kind k tokens) d k t base)
+  loop_rows d k t tokens base =
+      all_append (IsDeep (t + 2)) (loop_widths units.tree k t) _ (loop_deep units.tree k t)
+      (inner_deep (t + 2) (λ v. node_survey units.tree count d (part_at units.tree k v) (t + 2))
+      (λ v b. survey_deep units.tree count d (part_at units.tree k v) (t + 2) b) _ _ _)
 
   -- NODES
   module _ (d k t : ℕ) (base : Base) (at : At (suc d) k t base) where
@@ -296,18 +266,22 @@ module _ (net : Net) (units : Units) (count : ℕ → ℕ) (cap : ℕ) (pos : 0 
     abbrev ps : List ℕ
     ps = (node_at units.tree k).parts
 
+    abbrev kind : Kind
+    kind = kind_at units.tree count k
+
     rows_at : (turns tokens : ℕ) (is : form ≡ Loop turns tokens) →
         AreRowsOfLoop net units count cap typed Above d k t base at turns tokens is
     unfolding node_survey
     rows_at turns tokens is = record {
-      long = piece_chans (suc d) k t base.proc base.chan base at.counted;
-      deep = loop_rows d k t base.proc base.chan turns tokens form is;
-      first = first_row k n t turns tokens form ps _ is;
+      long = (piece_size (suc d) k t base at.counted).chans;
+      deep = subst (λ (z : Kind). AllByRecursion (IsDeep (t + 2)) (rows_of z d k t base)) (sym (loop_is k turns tokens is)) (loop_rows d k t tokens base);
+      first = subst (λ (z : Kind). (width_at (rows_of z d k t base) 0).tags ≡ t + 2) (sym (loop_is k turns tokens is)) refl;
     }
 
-    -- its own loop, if its form is that of one
+    -- its own loop, if it is one
     own_places : (f : Form) → form ≡ f → (r e : ℕ) → r ≡ base.proc + length (piece (suc d) k base).procs →
-        e ≡ base.chan + length (piece (suc d) k base).chans → Loops (own_loops f base.proc base.chan r e)
+        e ≡ base.chan + length (piece (suc d) k base).chans → Loops (own_loops (kind_row f k (length ps) n).is_loop base.proc base.chan r e)
+    unfolding kind_row
     own_places Seq is r e p c = tt
     own_places Comp is r e p c = tt
     own_places Pipe is r e p c = tt
@@ -320,12 +294,17 @@ module _ (net : Net) (units : Units) (count : ℕ → ℕ) (cap : ℕ) (pos : 0 
       tt,
     )
 
+    own_placed : (r e : ℕ) → r ≡ base.proc + length (piece (suc d) k base).procs → e ≡ base.chan + length (piece (suc d) k base).chans →
+        Loops (own_loops kind.is_loop base.proc base.chan r e)
+    unfolding kind_at
+    own_placed r e p c = own_places form refl r e p c
+
     none : (r : ℕ) (q : Proc) → NoTail q → IsFewAt net units count cap typed Above r q
     unfolding NoTail
     none r q not e = absurd (not e)
 
     own_tails : (f : Form) → form ≡ f → Tails base.proc ((shape_row f k (length ps) n).procs base)
-    unfolding shape_row NoTail
+    unfolding kind_row NoTail
     own_tails Seq is = (λ e. cc, tt)
     own_tails Comp is = (λ e. cc, tt)
     own_tails Pipe is = tt
@@ -346,11 +325,8 @@ module _ (net : Net) (units : Units) (count : ℕ → ℕ) (cap : ℕ) (pos : 0 
     abbrev shape : Shape
     shape = shape_at units.tree count k
 
-    abbrev survey_of : ℕ → (p c : ℕ) → Survey
-    survey_of j p c = node_survey units.tree count d j (t + deeper form) p c
-
     abbrev own : List Width
-    own = own_widths units.tree k n t form ps
+    own = kind.widths units.tree k t
 
     abbrev inside_of : ℕ → Base → Piece
     inside_of v = piece d (part_at units.tree k v)
@@ -358,9 +334,11 @@ module _ (net : Net) (units : Units) (count : ℕ → ℕ) (cap : ℕ) (pos : 0 
     abbrev inner : Piece
     inner = inner_pieces inside_of (shape.seats base) (base.proc + length (shape.procs base)) (base.chan + shape.chans base)
 
-    -- what is surveyed inside it, from a process and a channel on
-    abbrev inner_at : (ks : List ℕ) (m l : ℕ) → Survey
-    inner_at ks m l = inner_survey survey_of ks (base.proc + m) (base.chan + l)
+    -- what is surveyed inside it, from a channel on
+    abbrev inner_at : (l : ℕ) → Survey
+    inner_at l =
+        inner_survey (λ v. node_survey units.tree count d (part_at units.tree k v) (t + kind.deeper)) (shape.seats base)
+        (base.proc + length (shape.procs base)) (base.chan + l)
 
     there : k < length units.tree.nodes
     there = counted_there units.tree count (suc d) k at.counted
@@ -372,33 +350,12 @@ module _ (net : Net) (units : Units) (count : ℕ → ℕ) (cap : ℕ) (pos : 0 
         IsCounted units.tree count d (part_at units.tree k (get_or (shape.seats base) v no_seat).part)
     each_counted v low = seat_counted units.tree count k typed.lawful there base v low d at.counted
 
-    row : IsForcedRow units.tree k n form ps shape
-    unfolding shape_at
-    row = row_forced units.tree k n form refl (lawful_at units.tree typed.lawful k there).form (counted_own units.tree count (suc d) k at.counted)
-
-    nodes_are : nodes_of units.tree k (shape.seats base) ≡ seat_nodes (node_at units.tree k) n
-    nodes_are = row.nodes base
-
     chans_are : length own ≡ shape.chans base
-    chans_are = row.count t base
+    chans_are = widths_counted units.tree count k typed.lawful there (counted_own units.tree count (suc d) k at.counted) t base
 
     whole_is : piece (suc d) k base ≡ whole_piece shape cap inside_of base
     unfolding piece_of
     whole_is = refl
-
-    procs_are : own_procs form n ≡ length (shape.procs base)
-    procs_are =
-        let m = procs_by units.tree count d in
-        let some : 0 < suc d = omega arith in
-        let down : suc d - 1 ≡ d = omega arith in
-        let step : procs_by units.tree count (suc d) k ≡ procs_row form n (sum_by m (outside_parts form ps)) = rw down at (procs_by-step units.tree count (suc d) k some) in
-        let sized = (piece_sized units.tree count cap (suc d) k base typed.lawful at.counted).procs in
-        let placed : length (shape.procs base ++ inner.procs) ≡ procs_by units.tree count (suc d) k = ap (λ (z : Piece). length z.procs) (sym whole_is) ∙ sized in
-        let split = length-append (shape.procs base) inner.procs in
-        let summed = row_sum form n m ps in
-        let counted = inner_count d k (shape.seats base) (base.proc + length (shape.procs base)) (base.chan + shape.chans base) each_counted in
-        let alike = ap (sum_by m) nodes_are in
-        omega (arith, step, placed, split, summed, counted, alike)
 
     stands : AreStanding net base.proc (shape.procs base ++ inner.procs)
     stands = subst (λ (z : Piece). AreStanding net base.proc z.procs) whole_is at.procs
@@ -412,23 +369,9 @@ module _ (net : Net) (units : Units) (count : ℕ → ℕ) (cap : ℕ) (pos : 0 
     many : length (shape.laid cap base ++ inner.chans) ≡ shape.chans base + length inner.chans
     many = let laid_long = law.laid cap base in omega (arith, length-append (shape.laid cap base) inner.chans, laid_long)
 
-    -- what is surveyed inside it, with the nodes, the processes and the channels as they are placed
-    moved : (P : Survey → Type 0) → P (inner_at (seat_nodes (node_at units.tree k) n) (own_procs form n) (length own)) →
-        P (inner_at (nodes_of units.tree k (shape.seats base)) (length (shape.procs base)) (shape.chans base))
-    moved P h =
-        subst₂ (λ m l. P (inner_at (nodes_of units.tree k (shape.seats base)) m l)) procs_are chans_are
-        (subst (λ ks. P (inner_at ks (own_procs form n) (length own))) (sym nodes_are) h)
-
-    moved_back : (P : Survey → Type 0) →
-        P (inner_at (nodes_of units.tree k (shape.seats base)) (length (shape.procs base)) (shape.chans base)) →
-        P (inner_at (seat_nodes (node_at units.tree k) n) (own_procs form n) (length own))
-    moved_back P h =
-        subst (λ ks. P (inner_at ks (own_procs form n) (length own))) nodes_are
-        (subst₂ (λ m l. P (inner_at (nodes_of units.tree k (shape.seats base)) m l)) (sym procs_are) (sym chans_are) h)
-
     inner_orderly : (s : State) → Above s →
         all_orderly (inner_parts (λ v. part d (part_at units.tree k v)) (shape.seats base) (base.proc + length (shape.procs base)) (base.chan + shape.chans base)) s ≡ true
-    unfolding part_of shape_at
+    unfolding part_of kind_at
     inner_orderly s above =
         row_orderly units (λ v. role_of units count d (part_at units.tree k v)) (λ v. part d (part_at units.tree k v)) k n ps base s form (at.orderly s above)
 
@@ -447,27 +390,24 @@ module _ (net : Net) (units : Units) (count : ℕ → ℕ) (cap : ℕ) (pos : 0 
         }
 
     -- what is surveyed of the node, in its parts
-    rows_split : CarryRow w base.chan own × CarryRow w (base.chan + length own)
-        (inner_at (seat_nodes (node_at units.tree k) n) (own_procs form n) (length own)).widths
+    rows_split : CarryRow w base.chan own × CarryRow w (base.chan + length own) (inner_at (length own)).widths
     unfolding node_survey
-    rows_split = row_split w base.chan own (inner_at (seat_nodes (node_at units.tree k) n) (own_procs form n) (length own)).widths at.row
+    rows_split = row_split w base.chan own (inner_at (length own)).widths at.row
 
-    procs_split : own_procs form n + (inner_at (seat_nodes (node_at units.tree k) n) (own_procs form n) (length own)).procs ≡ length (piece (suc d) k base).procs
+    procs_split : length (shape.procs base) + (inner_at (length own)).procs ≡ length (piece (suc d) k base).procs
     unfolding node_survey
-    procs_split = piece_procs (suc d) k t base.proc base.chan base at.counted
+    procs_split = (piece_size (suc d) k t base at.counted).procs
 
-    chans_split : length own + length (inner_at (seat_nodes (node_at units.tree k) n) (own_procs form n) (length own)).widths ≡ length (piece (suc d) k base).chans
+    chans_split : length own + length (inner_at (length own)).widths ≡ length (piece (suc d) k base).chans
     unfolding node_survey
-    chans_split =
-        sym (length-append own (inner_at (seat_nodes (node_at units.tree k) n) (own_procs form n) (length own)).widths)
-        ∙ piece_chans (suc d) k t base.proc base.chan base at.counted
+    chans_split = sym (length-append own (inner_at (length own)).widths) ∙ (piece_size (suc d) k t base at.counted).chans
 
     tails_own : Tails base.proc (shape.procs base)
-    unfolding shape_at
+    unfolding kind_at
     tails_own = own_tails form refl
 
-    module _ (each : (j u : ℕ) (b : Base) → At d j u b → HasPlaces (node_survey units.tree count d j u b.proc b.chan).loops b.proc (piece d j b).procs) where
-      inner_is : AreAt d k (t + deeper form) (λ j b. each j (t + deeper form) b) (base.chan + shape.chans base) (shape.seats base)
+    module _ (each : (j u : ℕ) (b : Base) → At d j u b → HasPlaces (node_survey units.tree count d j u b).loops b.proc (piece d j b).procs) where
+      inner_is : AreAt d k (t + kind.deeper) (λ j b. each j (t + kind.deeper) b) (base.chan + shape.chans base) (shape.seats base)
           (base.proc + length (shape.procs base)) (base.chan + shape.chans base)
       inner_is =
           let ss = stands_split net base.proc (shape.procs base) inner.procs stands in
@@ -481,33 +421,33 @@ module _ (net : Net) (units : Units) (count : ℕ → ℕ) (cap : ℕ) (pos : 0 
             procs = ss.1;
             chans = subst (λ z. AreLaid net (base.chan + z) inner.chans) (law.laid cap base) oo.1;
             inside = omega (arith, inside, all);
-            row = subst (λ z. CarryRow w (base.chan + z) (inner_at (nodes_of units.tree k (shape.seats base)) (length (shape.procs base)) (shape.chans base)).widths) chans_are
-                (moved (λ z. CarryRow w (base.chan + length own) z.widths) rows_split.1);
+            row = subst (λ z. CarryRow w (base.chan + z) (inner_at z).widths) chans_are rows_split.1;
             orderly = inner_orderly;
           }
 
-      node_places : HasPlaces (node_survey units.tree count (suc d) k t base.proc base.chan).loops base.proc (piece (suc d) k base).procs
+      node_places : HasPlaces (node_survey units.tree count (suc d) k t base).loops base.proc (piece (suc d) k base).procs
       unfolding node_survey
       node_places =
-          let within : Survey = inner_at (seat_nodes (node_at units.tree k) n) (own_procs form n) (length own) in
-          let has = inner_places d k (t + deeper form) (λ j b. each j (t + deeper form) b) (base.chan + shape.chans base) (shape.seats base)
+          let within : Survey = inner_at (length own) in
+          let has = inner_places d k (t + kind.deeper) (λ j b. each j (t + kind.deeper) b) (base.chan + shape.chans base) (shape.seats base)
           (base.proc + length (shape.procs base)) (base.chan + shape.chans base) inner_is in
           let procs = procs_split in
           let chans = chans_split in
           record {
-            loops = all_append _ within.loops _ (moved_back (λ z. Loops z.loops) has.loops)
-                (own_places form refl (base.proc + own_procs form n + within.procs) (base.chan + length own + length within.widths) (omega (arith, procs)) (omega (arith, chans)));
+            loops = all_append _ within.loops _ (subst (λ z. Loops (inner_at z).loops) (sym chans_are) has.loops)
+                (own_placed (base.proc + length (shape.procs base) + within.procs) (base.chan + length own + length within.widths)
+                (omega (arith, procs)) (omega (arith, chans)));
             tails = subst (λ (z : Piece). Tails base.proc z.procs) (sym whole_is)
                 (from_append _ base.proc (shape.procs base) inner.procs tails_own has.tails);
           }
 
   -- at each place that is surveyed of a node there is a loop, and each tail is that of one
   pub places : (d k t : ℕ) (base : Base) → At d k t base →
-      HasPlaces (node_survey units.tree count d k t base.proc base.chan).loops base.proc (piece d k base).procs
+      HasPlaces (node_survey units.tree count d k t base).loops base.proc (piece d k base).procs
   unfolding IsCounted
   places zero k t base at = none at.counted
     where
       none : IsCounted units.tree count zero k →
-          HasPlaces (node_survey units.tree count zero k t base.proc base.chan).loops base.proc (piece zero k base).procs
+          HasPlaces (node_survey units.tree count zero k t base).loops base.proc (piece zero k base).procs
       none h = absurd h
   places (suc d) k t base at = node_places d k t base at (λ j u b here. places d j u b here)

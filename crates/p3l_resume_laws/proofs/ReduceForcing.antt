@@ -16,11 +16,12 @@ use Rattle.p3l_firing.specs.Widths.{Carries, Widths}
 use Rattle.p3l_template.specs.Shape.{Base, numbers_from}
 use Rattle.p3l_template.specs.laws.Row.{numbers_at, numbers_length}
 use Rattle.p3l_template.specs.laws.TimesLaw.{all_numbers}
+use Rattle.p3l_template.specs.Width.{outs_width}
+use Rattle.p3l_template.specs.declared.width.Width.{Width}
+use Rattle.p3l_reduce.specs.ReduceKind.{reduce_widths, segment_width}
 use Rattle.p3l_reduce.specs.Reduce.{fold_at, fold_procs, join_at, join_procs, reduce_shape, split_proc, tee_by, tree_shape}
 use Rattle.p3l_reduce.specs.laws.ReduceLaw.{lengths_length}
 use Rattle.p3l_reduce.specs.laws.ReduceTyping.{level_exact}
-use Rattle.p3l_fitting.specs.Widths.{outs_width, reduce_widths, segment_width}
-use Rattle.p3l_fitting.specs.declared.width.Width.{Width}
 use Rattle.p3l_resume_laws.proofs.Rows.{CarryRow, all_split, row_append, row_same, row_segments}
 use Rattle.p3l_resume_laws.proofs.Forcing.{FitAll, Flows, Forces, run_forces}
 

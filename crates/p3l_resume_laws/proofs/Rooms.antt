@@ -16,7 +16,7 @@ use Rattle.p3l_firing.specs.State.{chan_at, no_chan}
 use Rattle.p3l_template.specs.Shape.{Base, Seat, empty_chan}
 use Rattle.p3l_reduce.specs.Reduce.{reduce_shape}
 use Rattle.p3l_link.specs.Net.{Piece, base_at, inner_pieces, linked_net, piece_of, root_piece, root_base}
-use Rattle.p3l_link.specs.Shape.{shape_at, shape_row}
+use Rattle.p3l_link.specs.Shape.{kind_at, kind_row, shape_row}
 
 abbrev IsSmall : Chan → Type 0
 IsSmall chan = chan.cap ≤ 1024
@@ -81,7 +81,7 @@ module _ (cap : ℕ) (few : cap ≤ 1024) where
   reduce_small k len (suc d) base = empties (2 ^ suc d + (2 ^ suc d + 2 ^ suc d - 2))
 
   row_small : (f : Form) (k parts n : ℕ) (base : Base) → HasFewTokens f → AreSmall ((shape_row f k parts n).laid cap base)
-  unfolding shape_row
+  unfolding kind_row
   row_small Seq k parts n base has = tt
   row_small Comp k parts n base has = tt
   row_small Pipe k parts n base has = empties (parts - 1)
@@ -98,7 +98,7 @@ module _ (cap : ℕ) (few : cap ≤ 1024) where
 
   module _ (tree : Tree) (lawful : IsLawfulTree tree) (count : ℕ → ℕ) where
     piece_small : (d k : ℕ) (base : Base) → AreSmall (piece_of tree count cap d k base).chans
-    unfolding piece_of shape_at
+    unfolding piece_of kind_at
     piece_small zero k base = tt
     piece_small (suc d) k base =
         small_append _ _ (row_small (node_at tree k).form k (length (node_at tree k).parts) (count k) base (node_few tree lawful k))

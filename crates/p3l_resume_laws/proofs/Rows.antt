@@ -3,8 +3,9 @@ use Rattle.std.proofs.Common.{◌≡◌, ℕ, zero, suc, ◌+◌, ◌*◌, ◌<�
 use Rattle.std.specs.List.{AllByRecursion}
 use Rattle.p3l_firing.specs.Widths.{AllCarry, Carries, Widths}
 use Rattle.p3l_template.specs.Shape.{numbers_from}
-use Rattle.p3l_fitting.specs.Widths.{segment_width, width_at}
-use Rattle.p3l_fitting.specs.declared.width.Width.{Width}
+use Rattle.p3l_template.specs.Width.{width_at}
+use Rattle.p3l_template.specs.declared.width.Width.{Width}
+use Rattle.p3l_reduce.specs.ReduceKind.{segment_width}
 
 -- the channels from number c on carry these widths
 abbrev pub CarryRow : Widths → ℕ → List Width → Type 0

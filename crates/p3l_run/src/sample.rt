@@ -9,11 +9,11 @@ ghost use Rattle.p3l_units.specs.Table.{HasCode};
 ghost use Rattle.p3l_profile.specs.Greatest.{IsProfileOf};
 ghost use Rattle.p3l_run.specs.Sampling.{IsSampled};
 
+use crate::feed::INPUT_LIMIT;
 use p3l_base::{List, NoMemory, Outcome, TrapKind};
 use p3l_code::SafeCode;
 use p3l_io::Source;
 use p3l_profile::Profile;
-use crate::feed::INPUT_LIMIT;
 use p3l_skel::Tree;
 use p3l_stream::laws::a_stream_gives_its_items;
 use p3l_stream::{Ending, Lines};

@@ -5,7 +5,7 @@ use Rattle.p3l_skel.specs.declared.tree.Form.TheVariants.{Pipe, Seq, Map}
 use Rattle.p3l_skel.specs.declared.tree.Tree.{Tree}
 use Rattle.p3l_skel.specs.Tree.{node_at, part_at}
 use Rattle.p3l_link.specs.Net.{inner_pieces, own_piece, piece_of, whole_piece}
-use Rattle.p3l_link.specs.Shape.{shape_at, shape_row}
+use Rattle.p3l_link.specs.Shape.{kind_at, kind_row, shape_at, shape_row}
 use Rattle.p3l_map.specs.MapShape.{map_shape}
 use Rattle.p3l_map.specs.laws.MapLaw.{map_lawful}
 use Rattle.p3l_template.specs.Pipe.{pipe_shape}
@@ -20,13 +20,13 @@ use Rattle.p3l_scan.specs.laws.ScanLaw.{some_blocks, stages_inner, steps_inner}
 -- the row of the linker's table
 row : (tree : Tree) (count : ℕ → ℕ) (k : ℕ) (f : Form) → (node_at tree k).form ≡ f →
     shape_at tree count k ≡ shape_row f k (length (node_at tree k).parts) (count k)
-unfolding shape_at
+unfolding kind_at
 row tree count k f is = ap (λ g. shape_row g k (length (node_at tree k).parts) (count k)) is
 
 module _ (tree : Tree) (count : ℕ → ℕ) (cap e d : ℕ) (plan : IsPlan tree count d) where
   step_linked : (s : ℕ) → s ≤ d → (base : Base) →
       piece_of tree count cap (suc e) (step_node s) base ≡ own_piece (run_shape (step_node s)) cap base
-  unfolding piece_of inner_pieces shape_row
+  unfolding piece_of inner_pieces kind_row
   step_linked s l base =
       ap (λ (x : Shape). whole_piece x cap (λ v. piece_of tree count cap e (part_at tree (step_node s) v)) base)
       (row tree count (step_node s) Seq (plan.steps s l))
@@ -34,7 +34,7 @@ module _ (tree : Tree) (count : ℕ → ℕ) (cap e d : ℕ) (plan : IsPlan tree
   stage_linked : (s : ℕ) → s ≤ d → (base : Base) →
       piece_of tree count cap (suc (suc e)) (stage_node s) base
       ≡ own_piece (stage_shape (stage_node s) (step_node s) (blocks d s)) cap base
-  unfolding piece_of shape_row
+  unfolding piece_of kind_row
   stage_linked s l base =
       let stage = plan.scan.stages s l in
       ap (λ (x : Shape). whole_piece x cap (λ v. piece_of tree count cap (suc e) (part_at tree (stage_node s) v)) base)
@@ -47,7 +47,7 @@ module _ (tree : Tree) (count : ℕ → ℕ) (cap e d : ℕ) (plan : IsPlan tree
 
   pub scan_linked : (base : Base) →
       piece_of tree count cap (suc (suc (suc e))) 0 base ≡ own_piece (scan_shape d) cap base
-  unfolding piece_of shape_row
+  unfolding piece_of kind_row
   scan_linked base =
       let parts : length (node_at tree 0).parts - 1 ≡ d = omega (arith, plan.scan.pipe.parts) in
       ap (λ (x : Shape). whole_piece x cap (λ v. piece_of tree count cap (suc (suc e)) (part_at tree 0 v)) base)

@@ -1,9 +1,14 @@
 -- Workers side by side between two processes of their node: what a farm and a map place alike.
-use Rattle.std.specs.Prelude.{ℕ, ◌+◌, List, [], ◌∷◌, replicate}
+use Rattle.std.specs.Prelude.{ℕ, ◌+◌, Bool, List, [], ◌∷◌, replicate}
+use Rattle.p3l_base.specs.declared.outcome.Outcome.{Outcome}
 use Rattle.p3l_firing.specs.declared.process.Proc.{Proc}
 use Rattle.p3l_firing.specs.declared.process.ProcKind.{ProcKind}
+use Rattle.p3l_firing.specs.declared.token.Token.{Token}
+use Rattle.p3l_firing.specs.State.{State}
+use Rattle.p3l_template.specs.Part.{Part}
 use Rattle.p3l_template.specs.Placed.{proc_end, chan_end}
-use Rattle.p3l_template.specs.Shape.{Shape, Base, empty_chan, numbers_from, fan_seats}
+use Rattle.p3l_template.specs.Shape.{Shape, Role, Base, empty_chan, numbers_from, fan_seats}
+use Rattle.p3l_template.specs.Units.{Units}
 
 -- the first process reads what comes in, and writes the in channels of the n workers
 abbrev pub first_proc : ProcKind → ℕ → ℕ → Base → Proc
@@ -18,30 +23,41 @@ last_proc kind node n base =
 abbrev pub fan_procs : ProcKind → ProcKind → ℕ → ℕ → Base → List Proc
 fan_procs first last node n base = first_proc first node n base ∷ (last_proc last node n base ∷ [])
 
--- the shape with these two processes and n workers, its part round them: of the shape itself stays what it means, and how
--- its part counts tokens and firings. A farm's shape and a map's are what this makes of them.
-abbrev pub fanned : ProcKind → ProcKind → ℕ → ℕ → Shape → Shape
-fanned first last node n shape =
+-- what a node makes of its workers: its meaning and its firings, and what its part says of a state
+pub record Fanned : Type 0 where
+  pub meaning : Units → (ℕ → Role) → Outcome → Outcome
+  pub firings : Units → (ℕ → Role) → ℕ
+  pub pending : Units → (ℕ → Role) → Base → List Part → State → List Token
+  pub orderly : Units → (ℕ → Role) → Base → List Part → State → Bool
+  pub owed : Units → (ℕ → Role) → Base → List Part → State → ℕ
+
+-- the part of such a node, round n workers
+abbrev pub fan_part : ℕ → Fanned → Units → (ℕ → Role) → Base → List Part → Part
+fan_part n fanned units roles base parts =
+    record {
+      input = base.input;
+      output = base.output;
+      proc_from = base.proc;
+      proc_to = proc_end (base.proc + 2) parts;
+      chan_from = base.chan;
+      chan_to = chan_end (base.chan + (n + n)) parts;
+      meaning = fanned.meaning units roles;
+      pending = fanned.pending units roles base parts;
+      orderly = fanned.orderly units roles base parts;
+      firings = fanned.firings units roles;
+      owed = fanned.owed units roles base parts;
+    }
+
+-- the shape with these two processes and n workers
+abbrev pub fan_shape : ProcKind → ProcKind → (node n : ℕ) → Fanned → Shape
+fan_shape first last node n fanned =
     record {
       procs = fan_procs first last node n;
       chans = λ base. n + n;
       laid = λ cap base. replicate (n + n) (empty_chan cap);
       inner = n;
       seats = λ base. fan_seats base.chan (base.chan + n) n;
-      meaning = shape.meaning;
-      firings = shape.firings;
-      part = λ units roles base parts.
-          record {
-            input = base.input;
-            output = base.output;
-            proc_from = base.proc;
-            proc_to = proc_end (base.proc + 2) parts;
-            chan_from = base.chan;
-            chan_to = chan_end (base.chan + (n + n)) parts;
-            meaning = shape.meaning units roles;
-            pending = (shape.part units roles base parts).pending;
-            orderly = (shape.part units roles base parts).orderly;
-            firings = shape.firings units roles;
-            owed = (shape.part units roles base parts).owed;
-          };
+      meaning = fanned.meaning;
+      firings = fanned.firings;
+      part = fan_part n fanned;
     }

@@ -66,6 +66,10 @@ added built procs chans = record { procs = built.procs ++ procs; chans = built.c
 abbrev pub HasRoomFor : Net → ℕ → ℕ → Type 0
 HasRoomFor built procs chans = (length built.procs + procs ≤ 1048576) × (length built.chans + chans ≤ 1048576)
 
+-- a template's own processes and channels keep within the limits of a net
+abbrev pub FitsAt : Shape → Base → Type 0
+FitsAt shape base = (base.proc + length (shape.procs base) ≤ 1048576) × (base.chan + shape.chans base ≤ 1048576)
+
 -- a channel that begins empty
 abbrev pub empty_chan : ℕ → Chan
 empty_chan cap = record { cap = cap; credits = 0 }

@@ -13,15 +13,8 @@ use Rattle.p3l_firing.specs.Typed.{FitsKind}
 use Rattle.p3l_firing.specs.Widths.{Widths, Carries}
 use Rattle.p3l_firing.specs.kinds.Run.{Takes}
 use Rattle.p3l_template.specs.Shape.{Base, Seat, Shape, no_seat, numbers_from}
-
--- how many words a value in a channel has, and how many tags each token
-pub record Width : Type 0 where
-  pub words : ℕ
-  pub tags : ℕ
-
--- the width of a channel that carries credits; also what a number without a channel is read as
-abbrev pub no_width : Width
-no_width = record { words = 0; tags = 0 }
+use Rattle.p3l_template.specs.Width.{no_width}
+use Rattle.p3l_template.specs.declared.width.Width.{Width}
 
 -- the channels from number c on carry these widths, in order
 unfoldable pub Carry : Widths → ℕ → List Width → Type 0

@@ -1,3 +1,4 @@
+pub mod Lists
 pub mod Rows
 pub mod Plain
 pub mod Row
@@ -6,10 +7,15 @@ pub mod TimesLaw
 pub mod Chain
 pub mod Touch
 pub mod BagLaw
+pub mod BareLaw
 pub mod Inside
 pub mod Fan
+pub mod FanSize
 pub mod RunLaw
 pub mod RunTyping
+pub mod RunFound
 pub mod PipeTyping
 pub mod FanTyping
 pub mod PipeLaw
+pub mod PipeFound
+pub mod Widths

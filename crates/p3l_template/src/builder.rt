@@ -95,6 +95,13 @@ impl Builder {
         Ok(numbers)
     }
 
+    /// The number of processes.
+    pub fn process_count(&self) -> usize
+        ensures { result ≡ length self.now.procs }
+    {
+        self.procs.len()
+    }
+
     /// The number of channels.
     pub fn channel_count(&self) -> usize
         ensures { result ≡ length self.now.chans }

@@ -1,14 +1,15 @@
 // Workers side by side between two processes of their node, as in a farm and in a map.
 
-ghost use Rattle.std.specs.Prelude.{◌≡◌, ◌+◌, IfOk, replicate};
+ghost use Rattle.std.specs.Prelude.{◌≡◌, ◌+◌, ◌≤◌, IfOk, length, replicate};
 ghost use Rattle.p3l_base.specs.Memory.{IfGiven};
 ghost use Rattle.p3l_template.specs.Built.{all_ports};
 ghost use Rattle.p3l_template.specs.Fan.{fan_procs};
-ghost use Rattle.p3l_template.specs.Shape.{base_of, added, HasRoomFor, empty_chan, fan_seats};
+ghost use Rattle.p3l_template.specs.Shape.{Base, base_of, added, HasRoomFor, empty_chan, fan_seats};
 
 use crate::builder::{Builder, one_channel};
+use crate::place::Seat;
 use crate::template::Ports;
-use crate::workers::worker_ports;
+use crate::workers::{worker_ports, worker_seats};
 use p3l_base::{List, NoMemory};
 use p3l_firing::{Proc, ProcKind};
 use std::alloc::Global;
@@ -65,5 +66,29 @@ impl Fan {
         })?;
         let ports = worker_ports(alloc, from, self.workers)?;
         Ok(ports)
+    }
+
+    /// Gives the number of both processes.
+    pub fn proc_count(&self) -> usize
+        ensures { (base : Base) → length (fan_procs self.now.first self.now.last self.now.node
+            self.now.workers base) ≡ result }
+    {
+        2
+    }
+
+    /// Gives the number of channels: two for each worker.
+    pub fn chan_count(&self) -> usize
+        ensures { result ≡ self.now.workers + self.now.workers }
+    {
+        self.workers as usize + self.workers as usize
+    }
+
+    /// Gives the seats of the workers in order, where the channels are those from `chan` on.
+    pub fn seats(&self, alloc: Global, chan: u32) -> Result<List<Seat>, NoMemory>
+        requires { chan + (self.now.workers + self.now.workers) ≤ 1048576 }
+        ensures { IfGiven result (λ seats. seats
+            ≡ fan_seats chan (chan + self.now.workers) self.now.workers) }
+    {
+        worker_seats(alloc, chan, self.workers)
     }
 }

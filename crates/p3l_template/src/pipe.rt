@@ -1,14 +1,28 @@
-// The template of a pipe.
+// The kind of a pipe. The tokens pending in it are those in its stages and between them, from the
+// last stage on.
 
-ghost use Rattle.std.specs.Prelude.{◌≡◌, ◌≤◌, ◌-◌};
-ghost use Rattle.p3l_template.specs.Pipe.{pipe_shape};
+ghost use Rattle.std.specs.Prelude.{◌≡◌, ◌≤◌, ◌-◌, ◌+◌, ◌++◌, length};
+ghost use Rattle.p3l_base.specs.Memory.{IfGiven};
+ghost use Rattle.p3l_template.specs.Finding.{bares};
+ghost use Rattle.p3l_template.specs.Pipe.{stage_seats};
+ghost use Rattle.p3l_template.specs.PipeKind.{in_stages, pipe_kind, waiting};
+ghost use Rattle.p3l_template.specs.Snapshot.{state_of};
 ghost use Rattle.p3l_template.specs.Typing.{IsPipeNode};
+ghost use Rattle.p3l_template.specs.laws.PipeFound.{pipe_found};
 ghost use Rattle.p3l_template.specs.laws.PipeLaw.{pipe_lawful};
-ghost use Rattle.p3l_template.specs.laws.PipeTyping.{pipe_serves};
+ghost use Rattle.p3l_template.specs.laws.PipeTyping.{pipe_counted, pipe_serves};
+ghost use Rattle.p3l_template.specs.laws.Widths.{pipe_tagged};
 
+use crate::bare::add_bare;
 use crate::builder::Builder;
+use crate::kind::Kind;
+use crate::place::{Place, Seat};
+use crate::snapshot::Snapshot;
 use crate::template::{Ports, Template};
+use crate::width::{Width, push_stages};
 use p3l_base::{List, NoMemory};
+use p3l_firing::Token;
+use p3l_skel::Tree;
 use std::alloc::Global;
 
 /// Stages one after the other, each on processes of its own.
@@ -18,7 +32,7 @@ pub struct PipeTemplate {
 }
 
 impl Template for PipeTemplate {
-    ghost shape = { λ t. pipe_shape (t.stages - 1) };
+    ghost shape = { λ t. (pipe_kind t.stages).shape };
 
     ghost is_fit = { λ t. 1 ≤ t.stages };
 
@@ -48,4 +62,136 @@ impl Template for PipeTemplate {
     ghost lawful = { λ t _. pipe_lawful (t.stages - 1) };
 
     ghost typed = { λ t tree node is. pipe_serves tree t.stages node is };
+}
+
+impl Kind for PipeTemplate {
+    ghost widths = { λ t. (pipe_kind t.stages).widths };
+
+    ghost deeper = { λ t. (pipe_kind t.stages).deeper };
+
+    ghost is_loop = { λ t. (pipe_kind t.stages).is_loop };
+
+    ghost finds = { λ t. (pipe_kind t.stages).finds };
+
+    fn proc_count(&self) -> usize {
+        0
+    }
+
+    fn chan_count(&self) -> usize {
+        self.stages as usize - 1
+    }
+
+    fn seats(&self, alloc: Global, place: &Place) -> Result<List<Seat>, NoMemory> {
+        let last = self.stages - 1;
+        stage_seats(alloc, last, place.input, place.chan, place.output)
+    }
+
+    fn push_widths(
+        &self,
+        row: &mut List<Width>,
+        tree: &Tree,
+        node: u32,
+        tags: u32,
+    ) -> Result<(), NoMemory> {
+        let Some(found) = tree.node(node) else {
+            return Ok(());
+        };
+        push_stages(row, tree, tags, found.parts.as_slice())
+    }
+
+    fn deeper(&self) -> u32 {
+        0
+    }
+
+    fn is_loop(&self) -> bool {
+        false
+    }
+
+    fn pending(
+        &self,
+        alloc: Global,
+        _tree: &Tree,
+        snapshot: &Snapshot,
+        place: &Place,
+        inner: &[List<Token>],
+    ) -> Result<Option<List<Token>>, NoMemory> {
+        let pending = in_pipe(alloc, snapshot, place.chan, inner)?;
+        Ok(Some(pending))
+    }
+
+    ghost tagged = { λ t tree node. pipe_tagged t.stages tree node };
+
+    ghost counted = { λ t tree node tags base is. pipe_counted tree t.stages node tags is };
+
+    ghost found = { λ t. pipe_found (t.stages - 1) };
+}
+
+// The seats of the stages between channels `from` and `to`, where the `last` channels between them
+// are those from `chan` on.
+fn stage_seats(
+    alloc: Global,
+    last: u32,
+    from: u32,
+    chan: u32,
+    to: u32,
+) -> Result<List<Seat>, NoMemory>
+    requires { chan + last ≤ 1048576 }
+    ensures { IfGiven result (λ seats. seats ≡ stage_seats 0 from chan to last) }
+{
+    let mut seats = List::new(alloc);
+    let mut input = from;
+    for part in 0..last {
+        let output = chan + part;
+        seats.push(Seat {
+            input,
+            output,
+            part,
+        })?;
+        input = output;
+    }
+    seats.push(Seat {
+        input,
+        output: to,
+        part: last,
+    })?;
+    Ok(seats)
+}
+
+// Puts what is pending in a stage after other tokens, and then what waits before it in a channel of
+// the pipe's own, which are those from `chan` on.
+fn add_stage(
+    alloc: Global,
+    snapshot: &Snapshot,
+    list: &mut List<Token>,
+    chan: u32,
+    stage: usize,
+    pending: &List<Token>,
+) -> Result<(), NoMemory>
+    requires { chan + stage ≤ 1048577 }
+    ensures { IfGiven result (λ _. list.new
+        ≡ list.old ++ (bares pending.now ++ waiting (state_of snapshot.now) chan stage)) }
+{
+    add_bare(alloc, list, pending.as_slice())?;
+    if stage == 0 {
+        return Ok(());
+    }
+    add_bare(alloc, list, snapshot.tokens(chan + (stage - 1) as u32))
+}
+
+// The tokens pending in a pipe whose own channels are those from `chan` on.
+fn in_pipe(
+    alloc: Global,
+    snapshot: &Snapshot,
+    chan: u32,
+    inner: &[List<Token>],
+) -> Result<List<Token>, NoMemory>
+    requires { chan + length inner.now ≤ 1048577 }
+    ensures { IfGiven result (λ list. list ≡ in_stages (state_of snapshot.now) chan inner.now) }
+{
+    let mut list = List::new(alloc);
+    for later in 0..inner.len() {
+        let stage = inner.len() - 1 - later;
+        add_stage(alloc, snapshot, &mut list, chan, stage, &inner[stage])?;
+    }
+    Ok(list)
 }

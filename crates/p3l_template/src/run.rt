@@ -1,15 +1,22 @@
-// The template of a node that is one process.
+// The kind of a node that is one process: nothing is ever pending in it.
 
-ghost use Rattle.std.specs.Prelude.{◌≡◌};
-ghost use Rattle.p3l_template.specs.Run.{run_shape};
+ghost use Rattle.std.specs.Prelude.{◌≡◌, refl};
+ghost use Rattle.p3l_template.specs.RunKind.{run_kind};
 ghost use Rattle.p3l_template.specs.Typing.{IsRunNode};
+ghost use Rattle.p3l_template.specs.laws.RunFound.{run_found};
 ghost use Rattle.p3l_template.specs.laws.RunLaw.{run_lawful};
 ghost use Rattle.p3l_template.specs.laws.RunTyping.{run_serves};
+ghost use Rattle.p3l_template.specs.laws.Widths.{run_tagged};
 
 use crate::builder::{Builder, one_channel};
+use crate::kind::Kind;
+use crate::place::{Place, Seat};
+use crate::snapshot::Snapshot;
 use crate::template::{Ports, Template};
+use crate::width::Width;
 use p3l_base::{List, NoMemory};
-use p3l_firing::{Proc, ProcKind};
+use p3l_firing::{Proc, ProcKind, Token};
+use p3l_skel::Tree;
 use std::alloc::Global;
 
 /// A node that is one process: a `seq`, a `comp`, or a `reduce` of one segment.
@@ -19,7 +26,7 @@ pub struct RunTemplate {
 }
 
 impl Template for RunTemplate {
-    ghost shape = { λ t. run_shape t.node };
+    ghost shape = { λ t. (run_kind t.node).shape };
 
     ghost is_fit = { λ t. Unit {0} };
 
@@ -47,4 +54,61 @@ impl Template for RunTemplate {
     ghost lawful = { λ t _. run_lawful t.node };
 
     ghost typed = { λ t tree node s. run_serves tree t.node node s };
+}
+
+impl Kind for RunTemplate {
+    ghost widths = { λ t. (run_kind t.node).widths };
+
+    ghost deeper = { λ t. (run_kind t.node).deeper };
+
+    ghost is_loop = { λ t. (run_kind t.node).is_loop };
+
+    ghost finds = { λ t. (run_kind t.node).finds };
+
+    fn proc_count(&self) -> usize {
+        1
+    }
+
+    fn chan_count(&self) -> usize {
+        0
+    }
+
+    fn seats(&self, alloc: Global, _place: &Place) -> Result<List<Seat>, NoMemory> {
+        Ok(List::new(alloc))
+    }
+
+    fn push_widths(
+        &self,
+        _row: &mut List<Width>,
+        _tree: &Tree,
+        _node: u32,
+        _tags: u32,
+    ) -> Result<(), NoMemory> {
+        Ok(())
+    }
+
+    fn deeper(&self) -> u32 {
+        0
+    }
+
+    fn is_loop(&self) -> bool {
+        false
+    }
+
+    fn pending(
+        &self,
+        alloc: Global,
+        _tree: &Tree,
+        _snapshot: &Snapshot,
+        _place: &Place,
+        _inner: &[List<Token>],
+    ) -> Result<Option<List<Token>>, NoMemory> {
+        Ok(Some(List::new(alloc)))
+    }
+
+    ghost tagged = { λ t tree node. run_tagged t.node tree node };
+
+    ghost counted = { λ t tree node tags base s. refl };
+
+    ghost found = { λ t. run_found t.node };
 }

@@ -11,14 +11,14 @@ use Rattle.p3l_template.specs.Shape.{numbers_from}
 use Rattle.p3l_template.specs.Typing.{IsTypedShape}
 use Rattle.p3l_template.specs.laws.FanTyping.{fan_typed}
 use Rattle.p3l_template.specs.laws.Row.{numbers_length}
-use Rattle.p3l_farm.specs.Farm.{farm_shape, IsFarmNode}
+use Rattle.p3l_farm.specs.Farm.{farmed, farm_shape, IsFarmNode}
 
 farm_typed : (tree : Tree) (node n : ℕ) (workers : Option ℕ) → node < length tree.nodes →
     (node_at tree node).form ≡ Farm workers → IsLawfulCount (node_at tree node).form n →
     HasWords tree (part_at tree node 0) (node_at tree node).ins (node_at tree node).outs →
     IsTypedShape tree node (farm_shape node n)
 farm_typed tree node n workers there form count part =
-    fan_typed tree node n Emit Collect (farm_shape node n) (node_at tree node).ins (node_at tree node).outs 1 (omega arith)
+    fan_typed tree node n Emit Collect (farmed n) (node_at tree node).ins (node_at tree node).outs 1 (omega arith)
     tt tt part.takes part.gives
     (λ w base t input output to_workers from_workers. (
       record {

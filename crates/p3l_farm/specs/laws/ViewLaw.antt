@@ -11,7 +11,8 @@ use Rattle.p3l_firing.specs.Token.{over, newest_tag, peeled, tagged, first_tag, 
 use Rattle.p3l_firing.specs.declared.token.Token.{Token}
 use Rattle.p3l_firing.specs.kinds.Collect.{front_is}
 use Rattle.p3l_template.specs.Bag.{look, read, IsNumbered}
-use Rattle.p3l_template.specs.laws.BagLaw.{look_there, look_empty, look_append, not_out, none_left, numbered_to, numbered_from, without_count, insert_numbered, insert_read, release_numbered, release_read}
+use Rattle.p3l_template.specs.laws.BagLaw.{look_there, look_empty, look_append, not_out, numbered_to, numbered_from, without_count, insert_numbered, insert_read, release_numbered, release_read}
+use Rattle.p3l_template.specs.laws.Lists.{none_left}
 
 -- line w changed by f
 unfoldable pub change : ℕ → (List Token → List Token) → List (List Token) → List (List Token)

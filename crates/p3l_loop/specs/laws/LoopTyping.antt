@@ -1,5 +1,5 @@
 -- The typing law of a loop: inside it each token has two tags more, and credits have no words and no tags.
-use Rattle.std.proofs.Common.{◌≡◌, ℕ, zero, suc, ◌+◌, ◌<◌, List, [], ◌∷◌, length, refl, sym, ap, subst, arith}
+use Rattle.std.proofs.Common.{◌≡◌, ℕ, zero, suc, ◌+◌, ◌<◌, [], ◌∷◌, length, refl, sym, ap, subst, arith}
 use Rattle.p3l_skel.specs.declared.tree.Form.TheVariants.{Loop}
 use Rattle.p3l_skel.specs.declared.tree.Tree.{Tree}
 use Rattle.p3l_skel.specs.Lawful.{HasWords}
@@ -7,9 +7,10 @@ use Rattle.p3l_skel.specs.Tree.{node_at, part_at}
 use Rattle.p3l_firing.specs.Process.{times}
 use Rattle.p3l_firing.specs.Widths.{Widths, Carries}
 use Rattle.p3l_template.specs.Shape.{numbers_from}
-use Rattle.p3l_template.specs.Typing.{IsTypedShape, Width, no_width, Carry}
+use Rattle.p3l_template.specs.Typing.{IsTypedShape, Carry}
 use Rattle.p3l_template.specs.laws.TimesLaw.{times_cons}
 use Rattle.p3l_loop.specs.Loop.{loop_shape, IsLoopNode}
+use Rattle.p3l_loop.specs.LoopKind.{loop_widths}
 
 -- the four channels in the order of their numbers
 four : (c : ℕ) → numbers_from c 4 ≡ c ∷ ((c + 1) ∷ ((c + 2) ∷ ((c + 3) ∷ [])))
@@ -31,14 +32,7 @@ five c v w x y z =
     let e = times_cons c y (z ∷ []) in
     omega (arith, a, b, d, e)
 
--- the widths of B, D, F and K
-abbrev widths_of : Tree → ℕ → ℕ → List Width
-widths_of tree node t =
-    record { words = (node_at tree node).ins; tags = t + 2 }
-    ∷ (record { words = (node_at tree node).outs; tags = t + 2 }
-    ∷ (record { words = (node_at tree node).ins; tags = t + 2 } ∷ (no_width ∷ [])))
-
-module _ (tree : Tree) (node : ℕ) (w : Widths) (c t : ℕ) (own : Carry w c (widths_of tree node t)) where
+module _ (tree : Tree) (node : ℕ) (w : Widths) (c t : ℕ) (own : Carry w c (loop_widths tree node t)) where
   to_body : Carries w c (node_at tree node).ins (t + 2)
   unfolding Carry
   to_body = let e : c + 0 ≡ c = omega arith in subst (λ z. Carries w z (node_at tree node).ins (t + 2)) e (own 0 (omega arith))
@@ -60,7 +54,7 @@ loop_typed : (tree : Tree) (node tokens turns limit : ℕ) → node < length tre
     HasWords tree (part_at tree node 0) (node_at tree node).ins (node_at tree node).outs →
     IsTypedShape tree node (loop_shape node tokens)
 loop_typed tree node tokens turns limit there form same part = record {
-  widths = λ t. widths_of tree node t;
+  widths = λ t. loop_widths tree node t;
   deeper = 2;
   shallow = omega arith;
   count = λ t base. refl;

@@ -1,7 +1,7 @@
 -- THE LAW OF THE MAP (`map_lawful`): any number of workers but 0, round any lawful parts, for any number of pieces.
 -- The pieces of an item go to the workers by turns and come back by turns, and each group is joined to one outcome:
 -- the items leave in order, each as the map of its pieces.
-use Rattle.std.proofs.Common.{◌≡◌, ℕ, zero, suc, ◌+◌, ◌-◌, ◌%◌, ◌≤◌, ◌<◌, ◌≢◌, inl, inr, ◌&&◌, cond, nat_lt, true, false, List, [], ◌∷◌, ◌++◌, map, length, get_or, refl, sym, ap, ap₂, ◌∙◌, subst, arith, append_assoc, le_refl, length-append, mod-lt, slice_get, Some, ltb-true, ◌*◌, nat_eq, nat_le, ltb-false}
+use Rattle.std.proofs.Common.{◌≡◌, ℕ, zero, suc, ◌+◌, ◌-◌, ◌%◌, ◌<◌, ◌≢◌, inl, inr, ◌&&◌, cond, nat_lt, true, false, List, [], ◌∷◌, ◌++◌, map, length, get_or, refl, sym, ap, ap₂, ◌∙◌, subst, arith, append_assoc, le_refl, length-append, mod-lt, slice_get, Some, ltb-true, ◌*◌, ltb-false}
 use Rattle.std.proofs.Math.Nat.{mod-eq_of_lt}
 use Rattle.std.proofs.lemmas.Bool.{cases_Bool, and_parts, and_from, cases_eq, cond-true, cond-false}
 use Rattle.std.proofs.lemmas.List.{map-append, length-map}
@@ -17,30 +17,29 @@ use Rattle.p3l_firing.specs.declared.net.Net.{Net}
 use Rattle.p3l_firing.specs.declared.process.ProcKind.TheVariants.{Scatter, Gather}
 use Rattle.p3l_firing.specs.declared.token.Token.{Token}
 use Rattle.p3l_map.specs.Map.{Pieces, View, spot, piece, joined, mapped, whole, to_come, well_kept, unsent, under_way, next_piece, scatter_ok, all_alike}
-use Rattle.p3l_map.specs.MapShape.{scatter_proc, gather_proc, pieces_of, lines_of, view_of, map_part, map_shape}
+use Rattle.p3l_map.specs.MapShape.{scatter_proc, gather_proc, pieces_of, lines_of, view_of, map_fanned, map_part, map_shape}
 use Rattle.p3l_map.specs.Places.{read_by, in_by, total, groups, left}
 use Rattle.p3l_map.specs.laws.MapView.{view_line, Kept, kept_to, kept_from, Goes, sent_below, take_view, take_goes, collect_view, collect_goes, emit_view, emit_goes, send_view, send_goes, Next, Next.More, Next.Done}
+use Rattle.p3l_map.specs.laws.Near.{near, near-way, near-turns, near-whole, near-come, near-kept}
 use Rattle.p3l_map.specs.laws.SizeLaw.{total_sum, come_bound, le_times, all_bound}
-use Rattle.p3l_map.specs.laws.Turns.{turns_same, total_same, all_empty_at, all_empty_from}
-use Rattle.p3l_template.specs.Part.{Part, IsLawfulPart, IsSized, in_hands, inside, line, IsInside, IsSameInside, IsAlike, Moves, Keeps, OneFired, no_part, all_orderly, IsFresh, Begins, IsDrained, due}
+use Rattle.p3l_map.specs.laws.Turns.{all_empty_at, all_empty_from}
+use Rattle.p3l_template.specs.Part.{Part, IsLawfulPart, IsSized, inside, line, IsInside, IsSameInside, IsAlike, Moves, Keeps, OneFired, no_part, all_orderly, IsFresh, Begins, IsDrained, due}
 use Rattle.p3l_template.specs.Placed.{IsLawfulShape, IsPlaced}
 use Rattle.p3l_template.specs.Shape.{Role, Base, numbers_from}
 use Rattle.p3l_template.specs.Sum.{sum_of}
 use Rattle.p3l_template.specs.Units.{Units}
 use Rattle.p3l_template.specs.laws.Chain.{all_same, all_kept, all_at, all_from}
-use Rattle.p3l_template.specs.laws.Fan.{Fan, fan_of, Around, Holds, around_moves, one_moves, same_alike, each_begins, fan_empty, fan_fires, fan_drained, fan_lawful}
-use Rattle.p3l_template.specs.laws.Inside.{channels_split, around_inside, times_le, line_length, channels_sum, insides_sum}
+use Rattle.p3l_template.specs.laws.Fan.{Fan, fan_of, Around, around_moves, one_moves, same_alike, each_begins, fan_empty, fan_fires, fan_drained, fan_lawful}
+use Rattle.p3l_template.specs.laws.FanSize.{worker_holds, fan_inside, lines_bound, dues_bound}
+use Rattle.p3l_template.specs.laws.Inside.{times_le}
+use Rattle.p3l_template.specs.laws.Lists.{none_left}
 use Rattle.p3l_template.specs.laws.Row.{numbers_length, numbers_at, stands_two}
 use Rattle.p3l_template.specs.laws.Rows.{at-same, at-other, front, fire_at, can_at, strict_at, cannot_at, emptied, room_when_empty}
-use Rattle.p3l_template.specs.laws.SumLaw.{sum_same, sum_none, sum_change, sum_le, sum_times, sum_add}
+use Rattle.p3l_template.specs.laws.SumLaw.{sum_same, sum_none, sum_change}
 use Rattle.p3l_template.specs.laws.Touch.{pop_same, pop_other, push_same, push_other, set_tokens, own_same, own_other, pop_own, push_own}
 use Rattle.p3l_firing.specs.kinds.Scatter as scatter
 use Rattle.p3l_firing.specs.kinds.Gather as gather
 use Rattle.p3l_firing.specs.Nodes.{last_element, element_of, joined_of}
-
-length_zero : (ts : List Token) → length ts ≡ 0 → ts ≡ []
-length_zero [] h = refl
-length_zero (t ∷ ts) h = absurd (omega (arith, h))
 
 total_none : (L : ℕ → List Token) (n : ℕ) → ((w : ℕ) → w < n → L w ≡ []) → total L n ≡ 0
 unfolding total
@@ -63,68 +62,27 @@ idle_next : (ts : List Token) (k : ℕ) → ts ≡ [] → next_piece ts k ≡ 0
 unfolding next_piece
 idle_next ts k e = ap (λ z. next_piece z k) e
 
--- lines that are the same below n are as good
-module _ (q : Pieces) (wide : 0 < q.lines) (v : View) (M : ℕ → List Token)
-    (h : (w : ℕ) → w < q.lines → M w ≡ v.lines w) where
-  near_spot : (p : ℕ) → spot q p < q.lines
-  unfolding spot
-  near_spot p = mod-lt (p % q.number) wide
-
-  abbrev near : View
-  near = record v { lines = M }
-
-  near_total : under_way q near ≡ under_way q v
-  near_total = total_same v.lines M q.lines h
-
-  near_whole : whole q near ≡ whole q v
-  unfolding whole
-  near_whole =
-      ap (λ m. v.held ++ (read_by M (spot q) (length v.held) m ++ unsent q v.sending v.sent)) near_total
-      ∙ ap (λ z. v.held ++ (z ++ unsent q v.sending v.sent))
-      (turns_same (spot q) q.lines near_spot (under_way q v) (length v.held) v.lines M h).0
-
-  near_goes : (u : View) → Goes q u v → Goes q u near
+-- lines that are the same below n go on as well
+module _ (q : Pieces) (v : View) (M : ℕ → List Token) (h : (w : ℕ) → w < q.lines → M w ≡ v.lines w) where
+  near_goes : (u : View) → Goes q u v → Goes q u (near q v M h)
   unfolding view_line to_come
   near_goes u g = record {
     kept = record {
       full = g.kept.full;
-      place = ap (λ m. (length v.held + m) % q.number) near_total ∙ g.kept.place;
-      in_turn =
-          ap (in_by M (spot q) q.lines (length v.held)) near_total
-          ∙ (turns_same (spot q) q.lines near_spot (under_way q v) (length v.held) v.lines M h).1 ∙ g.kept.in_turn;
-      even = ap (left q.number []) near_whole ∙ g.kept.even;
-      alike = ap (λ z. all_alike (groups q.number [] z)) near_whole ∙ g.kept.alike;
+      place = ap (λ m. (length v.held + m) % q.number) (near-way q v M h) ∙ g.kept.place;
+      in_turn = ap (in_by M (spot q) q.lines (length v.held)) (near-way q v M h) ∙ (near-turns q v M h).1 ∙ g.kept.in_turn;
+      even = ap (left q.number []) (near-whole q v M h) ∙ g.kept.even;
+      alike = ap (λ z. all_alike (groups q.number [] z)) (near-whole q v M h) ∙ g.kept.alike;
       scatter = g.kept.scatter;
     };
-    line = ap
-        (λ z. v.output ++ (map (joined q) (groups q.number [] z) ++ map (over (mapped q)) v.input)) near_whole ∙ g.line;
+    line = ap (λ z. v.output ++ (map (joined q) (groups q.number [] z) ++ map (over (mapped q)) v.input)) (near-whole q v M h)
+        ∙ g.line;
   }
-
-  near_come : to_come q near ≡ to_come q v
-  unfolding to_come
-  near_come = ap (λ z. map (joined q) (groups q.number [] z)) near_whole
-
-  near_kept : well_kept q near ≡ well_kept q v
-  unfolding well_kept
-  near_kept =
-      ap (λ m. nat_le (length v.held) q.number
-      && (nat_eq ((length v.held + m) % q.number) (next_piece v.sending v.sent)
-      && (in_by M (spot q) q.lines (length v.held) m
-      && (nat_eq (length (left q.number [] (whole q near))) 0
-      && (all_alike (groups q.number [] (whole q near)) && scatter_ok q v.sending v.sent))))) near_total
-      ∙ ap₂ (λ b z. nat_le (length v.held) q.number
-      && (nat_eq ((length v.held + under_way q v) % q.number) (next_piece v.sending v.sent)
-      && (b && (nat_eq (length (left q.number [] z)) 0
-      && (all_alike (groups q.number [] z) && scatter_ok q v.sending v.sent)))))
-      (turns_same (spot q) q.lines near_spot (under_way q v) (length v.held) v.lines M h).1 near_whole
 
 module _ (net : Net) (units : Units) (roles : ℕ → Role) (node n : ℕ) (pos : 0 < n) (base : Base) (Ps : List Part)
     (placed : IsPlaced net units roles (map_shape node n) base Ps) where
   fan : Fan net units roles n base Ps
   fan = fan_of net units roles n base Ps placed.good placed.inner
-
-  holds : Holds base n Ps (map_part units node n roles base Ps)
-  holds = record { input = refl; output = refl; proc_from = refl; proc_to = refl; chan_from = refl; chan_to = refl }
 
   abbrev Q : Pieces
   Q = pieces_of units node n (roles 0).meaning
@@ -274,7 +232,7 @@ module _ (net : Net) (units : Units) (roles : ℕ → Role) (node n : ℕ) (pos 
           output = take_other base.output (λ z. placed.good.apart (sym z)) i;
         } in
         subst (λ z. Goes Q (view_of base Ps s) z) (sym e)
-        (near_goes Q pos
+        (near_goes Q
         (take_view Q (omega arith) pos (view_of base Ps s) k (first_or credit (s.tokens base.input)) (rest_of (s.tokens base.input)))
         (lines_of Ps (take_state s)) ls (view_of base Ps s)
         (take_goes Q (omega arith) pos (view_of base Ps s) k (first_or credit (s.tokens base.input)) (rest_of (s.tokens base.input))
@@ -323,7 +281,7 @@ module _ (net : Net) (units : Units) (roles : ℕ → Role) (node n : ℕ) (pos 
           output = emit_out i;
         } in
         subst (λ z. Goes Q (view_of base Ps s) z) (sym e)
-        (near_goes Q pos (emit_view Q (omega arith) pos (view_of base Ps s) k) (lines_of Ps (emit_state s)) ls
+        (near_goes Q (emit_view Q (omega arith) pos (view_of base Ps s) k) (lines_of Ps (emit_state s)) ls
         (view_of base Ps s)
         (emit_goes Q (omega arith) pos (view_of base Ps s) k full))
 
@@ -425,7 +383,7 @@ module _ (net : Net) (units : Units) (roles : ℕ → Role) (node n : ℕ) (pos 
           output = collect_other base.output (omega (arith, placed.good.output)) i;
         } in
         subst (λ z. Goes Q (view_of base Ps s) z) (sym e)
-        (near_goes Q pos (collect_view Q (omega arith) pos (view_of base Ps s) k) (lines_of Ps (collect_state s))
+        (near_goes Q (collect_view Q (omega arith) pos (view_of base Ps s) k) (lines_of Ps (collect_state s))
         (λ w l. ls w l ∙ ap (λ z. at (lines_of Ps s) z (rest_of (lines_of Ps s z)) w) (sym sp))
         (view_of base Ps s)
         (collect_goes Q (omega arith) pos (view_of base Ps s) k room (ap (λ z. has_first (lines_of Ps s z)) sp ∙ fr.0)))
@@ -532,7 +490,7 @@ module _ (net : Net) (units : Units) (roles : ℕ → Role) (node n : ℕ) (pos 
           output = send_other base.output (omega (arith, placed.good.output)) i;
         } in
         subst (λ z. Goes Q (view_of base Ps s) z) (sym e)
-        (near_goes Q pos (send_view Q (omega arith) pos (view_of base Ps s) k (first_or credit (s.own base.proc).held) sd m)
+        (near_goes Q (send_view Q (omega arith) pos (view_of base Ps s) k (first_or credit (s.own base.proc).held) sd m)
         (lines_of Ps (send_state s)) send_lines (view_of base Ps s)
         (send_goes Q (omega arith) pos (view_of base Ps s) k (first_or credit (s.own base.proc).held) sd m t one))
 
@@ -689,7 +647,7 @@ module _ (net : Net) (units : Units) (roles : ℕ → Role) (node n : ℕ) (pos 
           output = o j;
         } in
         subst (λ z. Goes Q (view_of base Ps s) z) (sym e)
-        (near_goes Q pos (view_of base Ps s) (lines_of Ps t) ls (view_of base Ps s) (record { kept = k; line = refl }))
+        (near_goes Q (view_of base Ps s) (lines_of Ps t) ls (view_of base Ps s) (record { kept = k; line = refl }))
 
     -- THE LAWS: what moves, and the step law
     -- Scatter and Gather have one way to fire
@@ -711,10 +669,10 @@ module _ (net : Net) (units : Units) (roles : ℕ → Role) (node n : ℕ) (pos 
         Moves (map_part units node n roles base Ps) s t
     map_moves t p i way =
         let P = map_part units node n roles base Ps in
-        let own = around_moves net units roles n base Ps fan P holds s in
-        fan_fires net units roles n base Ps fan P holds s t p i way (Moves P s t)
+        let own = around_moves net units roles n base Ps fan (map_fanned node n) s in
+        fan_fires net units roles n base Ps fan (map_fanned node n) s t p i way (Moves P s t)
         (scatter_way t (Moves P s) (λ _. own _ scatter_around))
-        (gather_way t (Moves P s) (λ _. own _ gather_around)) (one_moves net units roles n base Ps fan P holds s t)
+        (gather_way t (Moves P s) (λ _. own _ gather_around)) (one_moves net units roles n base Ps fan (map_fanned node n) s t)
 
     map_line : (t : State) → line (map_part units node n roles base Ps) t ≡ view_line Q (view_of base Ps t)
     unfolding line view_line
@@ -738,7 +696,7 @@ module _ (net : Net) (units : Units) (roles : ℕ → Role) (node n : ℕ) (pos 
         let P = map_part units node n roles base Ps in
         let a = and_parts _ _ h in
         let k = kept_to Q (view_of base Ps s) a.0 in
-        fan_fires net units roles n base Ps fan P holds s t p i way (Keeps P s t)
+        fan_fires net units roles n base Ps fan (map_fanned node n) s t p i way (Keeps P s t)
         (scatter_way t (Keeps P s) (λ c. keeps_from _ (scatter_goes k c) (own_orderly _ scatter_around a.1)))
         (gather_way t (Keeps P s) (λ c. keeps_from _ (gather_goes k c) (own_orderly _ gather_around a.1)))
         (λ one. keeps_from t (worker_goes t one a.1 k) (all_kept Ps s t one a.1))
@@ -979,7 +937,7 @@ module _ (net : Net) (units : Units) (roles : ℕ → Role) (node n : ℕ) (pos 
         let P = map_part units node n roles base Ps in
         let a = and_parts _ _ h in
         let k = kept_to Q (view_of base Ps s) a.0 in
-        fan_fires net units roles n base Ps fan P holds s t p i way (due P t < due P s)
+        fan_fires net units roles n base Ps fan (map_fanned node n) s t p i way (due P t < due P s)
         (scatter_way t (λ u. due P u < due P s) (λ c. elim (cases_Bool (has_first (s.own base.proc).held)) [
           | inl f ↦ subst (λ t. due P t < due P s) (sym (scatter_fires ∙ cond-true _ _ _ f)) (send_works k f)
           | inr f ↦
@@ -1032,7 +990,7 @@ module _ (net : Net) (units : Units) (roles : ℕ → Role) (node n : ℕ) (pos 
 
       worker_drained : (w : ℕ) → w < n → s.tokens (base.chan + n + w) ≡ [] → IsDrained (get_or Ps w no_part) s
       worker_drained =
-          fan_drained net units roles n base Ps fan (map_part units node n roles base Ps) holds s placed.chans
+          fan_drained net units roles n base Ps fan (map_fanned node n) s placed.chans
           (and_parts _ _ h).1 quiet calm
 
       line_dry : (w : ℕ) → w < n → s.tokens (base.chan + n + w) ≡ [] → lines_of Ps s w ≡ []
@@ -1101,7 +1059,7 @@ module _ (net : Net) (units : Units) (roles : ℕ → Role) (node n : ℕ) (pos 
           let a : length (s.own (base.proc + 1)).held ≡ 0 =
           sym (mod-eq_of_lt held_few) ∙ ap (λ m. m % suc (last_element units.tree node)) (omega (arith, under_none))
           ∙ kept.place ∙ idle_next (s.own base.proc).held (s.own base.proc).number no_sending in
-          length_zero _ a
+          none_left _ a
 
       map_drained : IsDrained (map_part units node n roles base Ps) s
       unfolding to_come whole unsent groups read_by
@@ -1118,7 +1076,7 @@ module _ (net : Net) (units : Units) (roles : ℕ → Role) (node n : ℕ) (pos 
       IsAlike (map_part units node n roles base Ps) s t
   unfolding to_come well_kept whole
   map_reads s t same =
-      let al = same_alike net units roles n base Ps fan (map_part units node n roles base Ps) holds s t same in
+      let al = same_alike net units roles n base Ps fan (map_fanned node n) s t same in
       let c : t.own base.proc ≡ s.own base.proc = same.own base.proc (le_refl _) (omega (arith, fan.all.procs)) in
       let g : t.own (base.proc + 1) ≡ s.own (base.proc + 1) =
       same.own (base.proc + 1) (omega arith) (omega (arith, fan.all.procs)) in
@@ -1136,7 +1094,7 @@ module _ (net : Net) (units : Units) (roles : ℕ → Role) (node n : ℕ) (pos 
         input = s.tokens base.input;
         output = s.tokens base.output;
       }))
-      ∙ near_come Q pos (view_of base Ps s) (lines_of Ps t) ls in
+      ∙ near-come Q (view_of base Ps s) (lines_of Ps t) ls in
       let o : well_kept (pieces_of units node n (roles 0).meaning) (view_of base Ps t)
       ≡ well_kept (pieces_of units node n (roles 0).meaning) (view_of base Ps s) =
       (λ i. well_kept (pieces_of units node n (roles 0).meaning)
@@ -1148,7 +1106,7 @@ module _ (net : Net) (units : Units) (roles : ℕ → Role) (node n : ℕ) (pos 
         input = s.tokens base.input;
         output = s.tokens base.output;
       }))
-      ∙ near_kept Q pos (view_of base Ps s) (lines_of Ps t) ls in
+      ∙ near-kept Q (view_of base Ps s) (lines_of Ps t) ls in
       record {
         pending = p;
         orderly = ap₂ (λ x y. x && y) o (all_same Ps s t (λ w l. (al w (omega (arith, l, fan.all.count))).orderly));
@@ -1166,19 +1124,17 @@ module _ (net : Net) (units : Units) (roles : ℕ → Role) (node n : ℕ) (pos 
       Begins (map_part units node n roles base Ps) s
   unfolding line due to_come whole unsent groups read_by all_alike
   map_begins s fresh =
-      let each = each_begins net units roles n base Ps fan (map_part units node n roles base Ps) holds s fresh in
+      let each = each_begins net units roles n base Ps fan (map_fanned node n) s fresh in
       let c = fresh.own base.proc (le_refl _) (omega (arith, fan.all.procs)) in
       let g = fresh.own (base.proc + 1) (omega arith) (omega (arith, fan.all.procs)) in
       let ls : (w : ℕ) → w < n → lines_of Ps s w ≡ [] =
       λ w l.
       ap₂ (λ x y. x ++ y)
       (ap s.tokens (fan.all.output w l)
-      ∙ fan_empty net units roles n base Ps fan
-      (map_part units node n roles base Ps) holds placed.cap placed.laid s fresh _ (omega arith) (omega (arith, l)))
+      ∙ fan_empty net units roles n base Ps fan (map_fanned node n) placed.cap placed.laid s fresh _ (omega arith) (omega (arith, l)))
       (ap₂ (λ x y. x ++ map (over (get_or Ps w no_part).meaning) y) (each w l).pending
       (ap s.tokens (fan.all.input w l)
-      ∙ fan_empty net units roles n base Ps fan
-      (map_part units node n roles base Ps) holds placed.cap placed.laid s fresh _ (omega arith) (omega (arith, l)))) in
+      ∙ fan_empty net units roles n base Ps fan (map_fanned node n) placed.cap placed.laid s fresh _ (omega arith) (omega (arith, l)))) in
       let u : total (lines_of Ps s) n ≡ 0 = total_none (lines_of Ps s) n ls in
       let w : whole (pieces_of units node n (roles 0).meaning) (view_of base Ps s) ≡ [] =
       λ i. (g i).held
@@ -1203,8 +1159,7 @@ module _ (net : Net) (units : Units) (roles : ℕ → Role) (node n : ℕ) (pos 
             (sum_none (λ w. due (get_or Ps w no_part) s + length (lines_of Ps s w)) n (λ w l.
             ap₂ (λ x y. ((get_or Ps w no_part).firings * length x + y) + length (lines_of Ps s w))
             (ap s.tokens (fan.all.input w l)
-            ∙ fan_empty net units roles n base Ps fan
-            (map_part units node n roles base Ps) holds placed.cap placed.laid s fresh _ (omega arith)
+            ∙ fan_empty net units roles n base Ps fan (map_fanned node n) placed.cap placed.laid s fresh _ (omega arith)
             (omega (arith, l))) (each w l).owed
             ∙ ap (λ z. ((get_or Ps w no_part).firings * 0 + 0) + length z) (ls w l) ∙ omega arith))
             (ap₂ (λ x y. length x.held * ((suc (last_element units.tree node) - x.number) * ((roles 0).firings + 2)) + length y) c p)
@@ -1212,72 +1167,18 @@ module _ (net : Net) (units : Units) (roles : ℕ → Role) (node n : ℕ) (pos 
       }
 
   -- SIZE
-  map_inside : (s : State) →
-      inside (map_part units node n roles base Ps) s
-      ≡ (length (s.own base.proc).held + length (s.own (base.proc + 1)).held)
-      + sum_of (λ w. (length (s.tokens (base.chan + w)) + length (s.tokens (base.chan + n + w)))
-      + inside (get_or Ps w no_part) s) n
-  unfolding inside in_hands
-  map_inside s =
-      let i = around_inside net units roles base.proc base.chan 2 (n + n) _ Ps placed.inner s in
-      let c = channels_split s base.chan n n in
-      let a = sum_add (λ w. length (s.tokens (base.chan + w)) + length (s.tokens (base.chan + n + w)))
-      (λ w. inside (get_or Ps w no_part) s) n in
-      let b = sum_add (λ w. length (s.tokens (base.chan + w))) (λ w. length (s.tokens (base.chan + n + w))) n in
-      let d = channels_sum s base.chan n in
-      let e = channels_sum s (base.chan + n) n in
-      let f = insides_sum Ps s ∙ ap (sum_of (λ w. inside (get_or Ps w no_part) s)) fan.all.count in
-      let o : length (s.own (suc base.proc)).held ≡ length (s.own (base.proc + 1)).held =
-      ap (λ x. length (s.own x).held) (omega arith) in
-      omega (arith, i, c, a, b, d, e, f, o)
-
   map_size : (s : State) → (map_part units node n roles base Ps).orderly s ≡ true →
       IsSized (map_part units node n roles base Ps) s
-  unfolding due
   map_size s h =
       let a = and_parts (well_kept (pieces_of units node n (roles 0).meaning) (view_of base Ps s))
       (all_orderly Ps s) h in
       let k = kept_to (pieces_of units node n (roles 0).meaning) (view_of base Ps s) a.0 in
-      let each : (w : ℕ) → w < n → IsSized (get_or Ps w no_part) s = λ w l.
-      (fan.all.lawful w l).size s (all_at Ps s a.1 w (omega (arith, l, fan.all.count))) in
-      let long : (w : ℕ) → w < n →
-      length (lines_of Ps s w)
-      ≤ (length (s.tokens (base.chan + w)) + length (s.tokens (base.chan + n + w))) + inside (get_or Ps w no_part) s =
-      λ w l. let x = ap (λ z. length (s.tokens z)) (fan.all.input w l) in
-      let y = ap (λ z. length (s.tokens z)) (fan.all.output w l) in
-      omega (arith, line_length (get_or Ps w no_part) s, x, y, (each w l).pending) in
-      let need : (w : ℕ) → w < n →
-      due (get_or Ps w no_part) s + length (lines_of Ps s w)
-      ≤ (1 + (roles 0).firings)
-      * ((length (s.tokens (base.chan + w)) + length (s.tokens (base.chan + n + w))) + inside (get_or Ps w no_part) s) =
-      λ w l.
-      let x = ap₂ (λ y z. y * length (s.tokens z)) (fan.all.firings w l) (fan.all.input w l) in
-      let y = ap (λ z. z * inside (get_or Ps w no_part) s) (fan.all.firings w l) in
-      let z : (1 + (roles 0).firings)
-      * ((length (s.tokens (base.chan + w)) + length (s.tokens (base.chan + n + w))) + inside (get_or Ps w no_part) s)
-      ≡ ((length (s.tokens (base.chan + w)) + length (s.tokens (base.chan + n + w))) + inside (get_or Ps w no_part) s)
-      + (((roles 0).firings * length (s.tokens (base.chan + w)) + (roles 0).firings
-      * length (s.tokens (base.chan + n + w))) + (roles 0).firings * inside (get_or Ps w no_part) s) = omega arith in
-      omega (arith, x, y, z, long w l, (each w l).owed) in
-      let all : ℕ =
-      sum_of (λ w. (length (s.tokens (base.chan + w)) + length (s.tokens (base.chan + n + w)))
-      + inside (get_or Ps w no_part) s) n in
-      let t1 =
-      sum_le (λ w. due (get_or Ps w no_part) s + length (lines_of Ps s w))
-      (λ w. (1 + (roles 0).firings)
-      * ((length (s.tokens (base.chan + w)) + length (s.tokens (base.chan + n + w)))
-      + inside (get_or Ps w no_part) s)) n need in
-      let t2 =
-      sum_times (1 + (roles 0).firings)
-      (λ w. (length (s.tokens (base.chan + w)) + length (s.tokens (base.chan + n + w)))
-      + inside (get_or Ps w no_part) s) n in
-      let u1 =
-      sum_le (λ w. length (lines_of Ps s w))
-      (λ w. (length (s.tokens (base.chan + w)) + length (s.tokens (base.chan + n + w)))
-      + inside (get_or Ps w no_part) s) n long in
+      let all : ℕ = sum_of (worker_holds net units roles n base Ps fan s) n in
+      let t1 = dues_bound net units roles n base Ps fan s a.1 in
+      let u1 = lines_bound net units roles n base Ps fan s a.1 in
       let u2 = total_sum (lines_of Ps s) n in
       let g = come_bound (pieces_of units node n (roles 0).meaning) (last_element units.tree node) (view_of base Ps s) refl k in
-      let i = map_inside s in
+      let i = fan_inside net units roles n base Ps fan s (map_fanned node n) in
       let x : suc (last_element units.tree node) * ((roles 0).firings + 2)
       ≡ last_element units.tree node * ((roles 0).firings + 2) + ((roles 0).firings + 2) = omega arith in
       let w1 =
@@ -1294,7 +1195,7 @@ module _ (net : Net) (units : Units) (roles : ℕ → Role) (node n : ℕ) (pos 
       (length (s.own base.proc).held * ((suc (last_element units.tree node) - (s.own base.proc).number) * ((roles 0).firings + 2)))
       (length (to_come (pieces_of units node n (roles 0).meaning) (view_of base Ps s)))
       (inside (map_part units node n roles base Ps) s)
-      (omega (arith, t1, t2)) w2 (omega (arith, g, u1, u2)) (omega (arith, i)) in
+      (omega (arith, t1)) w2 (omega (arith, g, u1, u2)) (omega (arith, i)) in
       record { owed = omega (arith, b, y); pending = omega (arith, g, u1, u2, i) }
 
   map_law : IsLawfulPart net units (map_part units node n roles base Ps)
@@ -1312,5 +1213,5 @@ module _ (net : Net) (units : Units) (roles : ℕ → Role) (node n : ℕ) (pos 
 
 pub map_lawful : (node n : ℕ) → 0 < n → IsLawfulShape (map_shape node n)
 map_lawful node n pos =
-    fan_lawful Scatter Gather node n (map_shape node n) pos
+    fan_lawful Scatter Gather node n (map_fanned node n) pos
     (λ net units roles base parts placed. map_law net units roles node n pos base parts placed)

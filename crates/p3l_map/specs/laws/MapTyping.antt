@@ -11,14 +11,14 @@ use Rattle.p3l_template.specs.Shape.{numbers_from}
 use Rattle.p3l_template.specs.Typing.{IsTypedShape}
 use Rattle.p3l_template.specs.laws.FanTyping.{fan_typed}
 use Rattle.p3l_template.specs.laws.Row.{numbers_length}
-use Rattle.p3l_map.specs.MapShape.{map_shape, IsMapNode}
+use Rattle.p3l_map.specs.MapShape.{map_fanned, map_shape, IsMapNode}
 
 map_typed : (tree : Tree) (node n : ℕ) (workers : Option ℕ) (cut : Cut) → node < length tree.nodes →
     (node_at tree node).form ≡ Map workers cut → IsLawfulCount (node_at tree node).form n →
     IsTypedShape tree node (map_shape node n)
 map_typed tree node n workers cut there form count =
     let part : ℕ = part_at tree node 0 in
-    fan_typed tree node n Scatter Gather (map_shape node n) (node_at tree part).ins (node_at tree part).outs 0 (omega arith)
+    fan_typed tree node n Scatter Gather (map_fanned node n) (node_at tree part).ins (node_at tree part).outs 0 (omega arith)
     tt tt refl refl
     (λ w base t input output to_workers from_workers. (
       record {

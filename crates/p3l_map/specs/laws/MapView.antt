@@ -8,12 +8,13 @@ use Rattle.std.proofs.lemmas.List.{map-append}
 use Rattle.p3l_firing.specs.Lists.{first_or, rest_of, has_first}
 use Rattle.p3l_firing.specs.At.{at}
 use Rattle.p3l_firing.proofs.TagLaw.{same_tags-refl}
-use Rattle.p3l_firing.specs.Token.{over, bodies, credit, same_tags}
+use Rattle.p3l_firing.specs.Token.{over, bodies, credit}
 use Rattle.p3l_firing.specs.declared.token.Token.{Token}
 use Rattle.p3l_map.specs.Map.{Pieces, spot, piece, pieces, outcomes, joined, mapped, View, unsent, under_way, whole, to_come, next_piece, scatter_ok, well_kept, all_tagged, alike, all_alike}
 use Rattle.p3l_map.specs.Places.{read_by, in_by, total, groups, left}
 use Rattle.p3l_map.specs.laws.GroupLaw.{groups_append, one_group, left_append}
 use Rattle.p3l_map.specs.laws.Turns.{turns_more, read_moved, total_at}
+use Rattle.p3l_template.specs.laws.Lists.{none_left}
 use Rattle.p3l_template.specs.laws.Rows.{front}
 
 unfoldable pub view_line : Pieces → View → List Token
@@ -26,10 +27,6 @@ pub record Kept (q : Pieces) (v : View) : Type 0 where
   pub even : left q.number [] (whole q v) ≡ []
   pub alike : all_alike (groups q.number [] (whole q v)) ≡ true
   pub scatter : scatter_ok q v.sending v.sent ≡ true
-
-none_left : (ts : List Token) → length ts ≡ 0 → ts ≡ []
-none_left [] h = refl
-none_left (t ∷ ts) h = absurd (omega (arith, h))
 
 pub kept_to : (q : Pieces) (v : View) → well_kept q v ≡ true → Kept q v
 unfolding well_kept

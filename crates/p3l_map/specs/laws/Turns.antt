@@ -1,28 +1,23 @@
 -- Tokens that are taken by turns from n lines, place c from line spot c, for any such spot below n. Lines that are
 -- equal below n give the same (`turns_same`), and a token after the line whose turn comes is read last (`turns_more`).
 -- Where the same lines come in turn from two places on, the same is read (`read_moved`).
-use Rattle.std.proofs.Common.{◌≡◌, ℕ, zero, suc, ◌+◌, ◌<◌, ◌≢◌, inl, inr, not, ◌&&◌, true, false, List, [], ◌∷◌, ◌++◌, refl, sym, ap, ap₂, ◌∙◌, subst, arith, length}
+use Rattle.std.proofs.Common.{◌≡◌, ℕ, zero, suc, ◌+◌, ◌<◌, ◌≢◌, inl, inr, not, ◌&&◌, true, List, [], ◌∷◌, ◌++◌, refl, sym, ap, ap₂, ◌∙◌, subst, arith, length}
+use Rattle.std.proofs.Math.Path.{fun_ext}
 use Rattle.std.proofs.lemmas.Bool.{and_parts, and_from, cases_eq, not-true}
 use Rattle.p3l_firing.specs.Lists.{first_or, rest_of, has_first}
 use Rattle.p3l_firing.specs.At.{at}
 use Rattle.p3l_firing.specs.Token.{credit}
 use Rattle.p3l_firing.specs.declared.token.Token.{Token}
 use Rattle.p3l_map.specs.Places.{read_by, all_empty, in_by, total}
-use Rattle.p3l_template.specs.laws.Rows.{at-same, at-other}
-
-pub ext : {A B : Type 0} {f g : A → B} → ((x : A) → f x ≡ g x) → f ≡ g
-ext h = λ i x. h x i
-
-pub empty_is : (ts : List Token) → has_first ts ≡ false → ts ≡ []
-empty_is [] h = refl
-empty_is (t ∷ ts) h = cc
+use Rattle.p3l_template.specs.laws.Lists.{first_append, rest_append, has_append}
+use Rattle.p3l_template.specs.laws.Rows.{at-same, at-other, emptied}
 
 pub all_empty_at : (L : ℕ → List Token) (n w : ℕ) → all_empty L n ≡ true → w < n → L w ≡ []
 unfolding all_empty
 all_empty_at L zero w h l = absurd (omega arith)
 all_empty_at L (suc n) w h l =
     elim (cases_eq w n) [
-      | inl e ↦ ap L e ∙ empty_is (L n) (not-true _ (and_parts _ _ h).0)
+      | inl e ↦ ap L e ∙ emptied (L n) (not-true _ (and_parts _ _ h).0)
       | inr k ↦ all_empty_at L n w (and_parts _ _ h).1 (omega arith)
     ]
 
@@ -58,18 +53,6 @@ turns_same spot n p (suc m) c L M h =
     let r = turns_same spot n p m (suc c) (at L (spot c) (rest_of (L (spot c)))) (at M (spot c) (rest_of (M (spot c))))
     (at_same_below L M n (spot c) k h) in
     (ap₂ (λ x y. first_or credit x ∷ y) (h (spot c) k) r.0, ap₂ (λ x y. has_first x && y) (h (spot c) k) r.1)
-
-pub first_append : (ts us : List Token) → has_first ts ≡ true → first_or credit (ts ++ us) ≡ first_or credit ts
-first_append [] us h = cc
-first_append (t ∷ ts) us h = refl
-
-pub rest_append : (ts us : List Token) → has_first ts ≡ true → rest_of (ts ++ us) ≡ rest_of ts ++ us
-rest_append [] us h = cc
-rest_append (t ∷ ts) us h = refl
-
-pub has_append : (ts us : List Token) → has_first ts ≡ true → has_first (ts ++ us) ≡ true
-has_append [] us h = cc
-has_append (t ∷ ts) us h = refl
 
 -- taking at j and appending at i may be done in either order
 swap_at : (L : ℕ → List Token) (i j : ℕ) (x : Token) → has_first (L j) ≡ true → (w : ℕ) →
@@ -109,7 +92,7 @@ has_at L i j x h =
           subst (λ k. (has_first (at L k (L k ++ x ∷ []) j) ≡ true)
           × (first_or credit (at L k (L k ++ x ∷ []) j) ≡ first_or credit (L j))) e (
             ap has_first (at-same L j _) ∙ has_append (L j) (x ∷ []) h,
-            ap (first_or credit) (at-same L j _) ∙ first_append (L j) (x ∷ []) h,
+            ap (first_or credit) (at-same L j _) ∙ first_append credit (L j) (x ∷ []) h,
           )
       | inr n ↦ (ap has_first (at-other L i _ j n) ∙ h, ap (first_or credit) (at-other L i _ j n))
     ]
@@ -141,7 +124,7 @@ turns_more spot n p (suc m) c e L x q h =
     let a = and_parts _ _ h in
     let b = has_at L (spot e) (spot c) x a.0 in
     let r = turns_more spot n p m (suc c) e (at L (spot c) (rest_of (L (spot c)))) x (omega arith) a.1 in
-    let s = ext (swap_at L (spot e) (spot c) x a.0) in (
+    let s = fun_ext (swap_at L (spot e) (spot c) x a.0) in (
       ap₂ (λ y F. y ∷ read_by F spot (suc c) (suc m)) b.1 s ∙ ap (λ z. first_or credit (L (spot c)) ∷ z) r.0,
       and_from _ _ b.0 (ap (λ F. in_by F spot n (suc c) (suc m)) s ∙ r.1),
     )

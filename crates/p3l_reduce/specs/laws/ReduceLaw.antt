@@ -41,11 +41,14 @@ use Rattle.p3l_firing.specs.kinds.Join as join
 use Rattle.p3l_firing.specs.Nodes.{segment_of, operator_of}
 
 -- THE PLACES OF CHANNELS
-tee_at : (base : Base) (m q : ℕ) → 1 < q → tee base m q ≡ base.chan + m + (q - 2)
+pub tee_above : (output from q : ℕ) → 2 ≤ q → tee_by output from q ≡ from + (q - 2)
 unfolding tee_by
-tee_at base m zero h = absurd (omega arith)
-tee_at base m (suc zero) h = absurd (omega arith)
-tee_at base m (suc (suc q)) h = omega arith
+tee_above output from zero h = absurd (omega arith)
+tee_above output from (suc zero) h = absurd (omega arith)
+tee_above output from (suc (suc q)) h = omega arith
+
+tee_at : (base : Base) (m q : ℕ) → 1 < q → tee base m q ≡ base.chan + m + (q - 2)
+tee_at base m q h = tee_above base.output (base.chan + m) q (omega (arith, h))
 
 tee_top : (base : Base) (m : ℕ) → tee base m 1 ≡ base.output
 unfolding tee_by

@@ -1,8 +1,8 @@
 -- The typing law of a reduce: the channels of the segments carry their elements, those of the joins one each, and all keep the
 -- tags.
-use Rattle.std.proofs.Common.{◌≡◌, ℕ, zero, suc, ◌+◌, ◌-◌, ◌*◌, ◌/◌, ◌^◌, ◌<◌, ◌≤◌, nat_lt, lt-ltb, le-ltb, Option, List, [], ◌∷◌, ◌++◌, length, get_or, replicate, refl, sym, ap, ap₂, ◌∙◌, subst, arith, append-nil}
+use Rattle.std.proofs.Common.{◌≡◌, ℕ, zero, suc, ◌+◌, ◌-◌, ◌*◌, ◌/◌, ◌^◌, ◌<◌, ◌≤◌, nat_lt, lt-ltb, le-ltb, Option, List, [], ◌∷◌, ◌++◌, map, length, length-append, get_or, replicate, refl, sym, ap, ap₂, ◌∙◌, subst, arith, append-nil}
 use Rattle.std.specs.List.{AllByRecursion}
-use Rattle.std.proofs.lemmas.List.{length-replicate}
+use Rattle.std.proofs.lemmas.List.{get_or-append-add, get_or-map, get_or-replicate, get_or_append_left, length-map, length-replicate}
 use Rattle.std.proofs.lemmas.List.Concat.{flat_map-append}
 use Rattle.std.proofs.lemmas.Bool.{cond-true, cond-false}
 use Rattle.std.proofs.lemmas.Nat.{pow_pos}
@@ -14,29 +14,36 @@ use Rattle.p3l_skel.specs.Counts.{IsLawfulCount, IsCountInRange}
 use Rattle.p3l_skel.proofs.Powers.{small_exponent}
 use Rattle.p3l_skel.specs.Tree.{node_at}
 use Rattle.p3l_firing.specs.declared.process.Proc.{Proc}
+use Rattle.p3l_firing.specs.Nodes.{elem_of}
 use Rattle.p3l_firing.specs.Process.{all_ins, all_outs, times}
 use Rattle.p3l_firing.specs.Segments.{halved, segment_lengths, segment_length, level_up_to, level_of}
 use Rattle.p3l_firing.specs.Typed.{FitsKind}
 use Rattle.p3l_firing.specs.Widths.{Widths, Carries}
 use Rattle.p3l_firing.specs.kinds.Run.{Takes}
 use Rattle.p3l_template.specs.Shape.{Base, numbers_from}
-use Rattle.p3l_template.specs.Typing.{IsTypedShape, Width, no_width, Carry, IsInner, StandsTyped}
+use Rattle.p3l_template.specs.Typing.{IsTypedShape, Carry, IsInner, StandsTyped}
+use Rattle.p3l_template.specs.Width.{no_width, outs_width}
+use Rattle.p3l_template.specs.declared.width.Width.{Width}
 use Rattle.p3l_template.specs.laws.Plain.{plain_credits}
 use Rattle.p3l_template.specs.laws.Row.{numbers_length, numbers_at}
 use Rattle.p3l_template.specs.laws.RunTyping.{run_typed}
 use Rattle.p3l_template.specs.laws.TimesLaw.{times_append, times_cons, numbers_append}
+use Rattle.p3l_reduce.specs.ReduceKind.{reduce_kind, reduce_widths, segment_width}
 use Rattle.p3l_reduce.specs.Reduce.{tee_by, join_at, fold_at, join_procs, fold_procs, split_proc, tree_shape, reduce_shape, IsReduceNode}
-use Rattle.p3l_reduce.specs.laws.ReduceLaw.{lengths_length}
+use Rattle.p3l_reduce.specs.laws.ReduceLaw.{lengths_length, tee_above}
 
 -- the widths of the segments' channels, then n of width a
-unfoldable rows : ℕ → ℕ → List ℕ → ℕ → Width → List Width
-rows elem t [] n a = replicate n a
-rows elem t (l ∷ ls) n a = record { words = l * elem; tags = t } ∷ rows elem t ls n a
+abbrev rows : ℕ → ℕ → List ℕ → ℕ → Width → List Width
+rows elem t ls n a = map (segment_width elem t) ls ++ replicate n a
 
 rows_count : (elem t : ℕ) (ls : List ℕ) (n : ℕ) (a : Width) → length (rows elem t ls n a) ≡ length ls + n
-unfolding rows
-rows_count elem t [] n a = length-replicate n a ∙ omega arith
-rows_count elem t (l ∷ ls) n a = omega (arith, rows_count elem t ls n a)
+rows_count elem t ls n a =
+    omega (
+      arith,
+      length-append (map (segment_width elem t) ls) (replicate n a),
+      length-map ls (segment_width elem t),
+      length-replicate n a,
+    )
 
 replicate_few : (n : ℕ) (a : Width) (most k : ℕ) → a.tags ≤ most → (get_or (replicate n a) k no_width).tags ≤ most
 replicate_few zero a most k h = omega arith
@@ -45,31 +52,23 @@ replicate_few (suc n) a most (suc k) h = replicate_few n a most k h
 
 rows_few : (elem t : ℕ) (ls : List ℕ) (n : ℕ) (a : Width) (k : ℕ) → a.tags ≤ t + 2 →
     (get_or (rows elem t ls n a) k no_width).tags ≤ t + 2
-unfolding rows
 rows_few elem t [] n a k h = replicate_few n a (t + 2) k h
 rows_few elem t (l ∷ ls) n a zero h = omega arith
 rows_few elem t (l ∷ ls) n a (suc k) h = rows_few elem t ls n a k h
 
 rows_segment : (elem t : ℕ) (ls : List ℕ) (n : ℕ) (a : Width) (k : ℕ) → k < length ls →
-    get_or (rows elem t ls n a) k no_width ≡ record { words = get_or ls k 0 * elem; tags = t }
-unfolding rows
-rows_segment elem t [] n a k l = absurd (omega arith)
-rows_segment elem t (x ∷ xs) n a zero l = refl
-rows_segment elem t (x ∷ xs) n a (suc k) l = rows_segment elem t xs n a k (omega arith)
-
-replicate_at : (n : ℕ) (a : Width) (k : ℕ) → k < n → get_or (replicate n a) k no_width ≡ a
-replicate_at zero a k l = absurd (omega arith)
-replicate_at (suc n) a zero l = refl
-replicate_at (suc n) a (suc k) l = replicate_at n a k (omega arith)
+    get_or (rows elem t ls n a) k no_width ≡ segment_width elem t (get_or ls k 0)
+rows_segment elem t ls n a k l =
+    get_or_append_left (map (segment_width elem t) ls) (replicate n a) no_width k
+    (omega (arith, l, length-map ls (segment_width elem t)))
+    ∙ get_or-map (segment_width elem t) ls k 0 no_width l
 
 rows_joined : (elem t : ℕ) (ls : List ℕ) (n : ℕ) (a : Width) (k : ℕ) → k < n →
     get_or (rows elem t ls n a) (length ls + k) no_width ≡ a
-unfolding rows
-rows_joined elem t [] n a k l = let e : 0 + k ≡ k = omega arith in
-    ap (λ z. get_or (replicate n a) z no_width) e ∙ replicate_at n a k l
-rows_joined elem t (x ∷ xs) n a k l =
-    let e : length (x ∷ xs) + k ≡ suc (length xs + k) = omega arith in
-    ap (λ z. get_or (rows elem t (x ∷ xs) n a) z no_width) e ∙ rows_joined elem t xs n a k l
+rows_joined elem t ls n a k l =
+    let e : length ls + k ≡ length (map (segment_width elem t) ls) + k = omega (arith, length-map ls (segment_width elem t)) in
+    ap (λ z. get_or (rows elem t ls n a) z no_width) e
+    ∙ get_or-append-add (map (segment_width elem t) ls) (replicate n a) k no_width ∙ get_or-replicate n k a no_width l
 
 halved_least : (most : ℕ) (ls : List ℕ) → AllByRecursion (λ l. 2 * most ≤ l) ls → AllByRecursion (λ l. most ≤ l) (halved ls)
 unfolding halved
@@ -92,19 +91,13 @@ all_get P [] k d h l = absurd (omega arith)
 all_get P (x ∷ xs) zero d h l = h.0
 all_get P (x ∷ xs) (suc k) d h l = all_get P xs k d h.1 (omega arith)
 
-tee_two : (output from q : ℕ) → 2 ≤ q → tee_by output from q ≡ from + (q - 2)
-unfolding tee_by
-tee_two output from zero h = absurd (omega arith)
-tee_two output from (suc zero) h = absurd (omega arith)
-tee_two output from (suc (suc q)) h = omega arith
-
 -- WHAT ITS PROCESSES READ AND WRITE
 joins_in : (node output t q n : ℕ) → 1 ≤ q → all_ins (join_procs node output t q n) ≡ numbers_from (t + (q + q - 2)) (n + n)
 unfolding join_procs numbers_from
 joins_in node output t q zero h = refl
 joins_in node output t q (suc n) h =
-    let a = tee_two output t (q + q) (omega arith) in
-    let b : tee_by output t (suc (q + q)) ≡ suc (t + (q + q - 2)) = tee_two output t (suc (q + q)) (omega arith) ∙ omega arith in
+    let a = tee_above output t (q + q) (omega arith) in
+    let b : tee_by output t (suc (q + q)) ≡ suc (t + (q + q - 2)) = tee_above output t (suc (q + q)) (omega arith) ∙ omega arith in
     let d : suc n + suc n ≡ suc (suc (n + n)) = omega arith in
     ap₂ (λ x y. x ∷ (y ∷ all_ins (join_procs node output t (suc q) n))) a b
     ∙ ap (λ z. (t + (q + q - 2)) ∷ (suc (t + (q + q - 2)) ∷ z))
@@ -115,7 +108,7 @@ joins_out : (node output t q n : ℕ) → 2 ≤ q → all_outs (join_procs node 
 unfolding join_procs numbers_from
 joins_out node output t q zero h = refl
 joins_out node output t q (suc n) h =
-    ap₂ (λ x y. x ∷ y) (tee_two output t q h)
+    ap₂ (λ x y. x ∷ y) (tee_above output t q h)
     (joins_out node output t (suc q) n (omega arith) ∙ ap (λ z. numbers_from z n) (omega arith))
 
 first_out : (node output t n : ℕ) → all_outs (join_procs node output t 1 (suc n)) ≡ output ∷ numbers_from t n
@@ -135,7 +128,7 @@ folds_out : (node m output first t s : ℕ) (ls : List ℕ) → 2 ≤ m →
 unfolding fold_procs numbers_from
 folds_out node m output first t s [] h = refl
 folds_out node m output first t s (l ∷ ls) h =
-    ap₂ (λ x y. x ∷ y) (tee_two output t (m + s) (omega arith))
+    ap₂ (λ x y. x ∷ y) (tee_above output t (m + s) (omega arith))
     (folds_out node m output first t (suc s) ls h ∙ ap (λ z. numbers_from z (length ls)) (omega arith))
 
 -- its own processes are inside
@@ -359,6 +352,20 @@ module _ (tree : Tree) (node d len elem : ℕ) (workers : Option ℕ) (there : n
     procs = tree_fits;
     seats = λ w base t s v l. absurd (omega arith);
   }
+
+-- its kind has a width for each channel
+pub widths_count : (node elem len t : ℕ) (a : Width) (level : ℕ) (base : Base) →
+    length (reduce_widths elem len t a level) ≡ (reduce_shape node len level).chans base
+unfolding reduce_widths reduce_shape
+widths_count node elem len t a zero base = refl
+widths_count node elem len t a (suc d) base =
+    rows_count elem t (segment_lengths (suc d) len) (2 ^ suc d + 2 ^ suc d - 2) a
+    ∙ ap (λ n. n + (2 ^ suc d + 2 ^ suc d - 2)) (lengths_length (suc d) len)
+
+pub reduce_counted : (tree : Tree) (own node len level t : ℕ) (base : Base) →
+    length ((reduce_kind own len level).widths tree node t) ≡ (reduce_kind own len level).shape.chans base
+reduce_counted tree own node len level t base =
+    widths_count own (elem_of (node_at tree node).form) len t (outs_width tree node t) level base
 
 -- the level of a power of two is its exponent
 pub level_exact : (most k : ℕ) → k ≤ most → level_up_to most (2 ^ k) ≡ k

@@ -5,7 +5,9 @@ use Rattle.p3l_skel.specs.Tree.{node_at}
 use Rattle.p3l_firing.specs.Widths.{Widths}
 use Rattle.p3l_template.specs.Pipe.{pipe_shape, stage_seats}
 use Rattle.p3l_template.specs.Shape.{Base, no_seat}
-use Rattle.p3l_template.specs.Typing.{Carry, IsTypedShape, StandsTyped, Width, no_width}
+use Rattle.p3l_template.specs.Typing.{Carry, IsTypedShape, StandsTyped}
+use Rattle.p3l_template.specs.Width.{no_width}
+use Rattle.p3l_template.specs.declared.width.Width.{Width}
 use Rattle.p3l_template.specs.laws.PipeTyping.{stages_length}
 
 pub no_tags : (row : List Width) (k n : ℕ) → length row ≡ 0 → (get_or row k no_width).tags ≤ n

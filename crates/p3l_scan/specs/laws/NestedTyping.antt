@@ -20,7 +20,9 @@ use Rattle.p3l_link.proofs.Widths.{AllRows, all_append, carry_left, carry_right,
 use Rattle.p3l_scan.specs.Nested.{AreInner, AreTypedInner, nested, nested_piece}
 use Rattle.p3l_template.specs.Placed.{IsLawfulShape}
 use Rattle.p3l_template.specs.Shape.{Base, Seat, Shape, no_seat, numbers_from}
-use Rattle.p3l_template.specs.Typing.{Carry, IsInner, IsTypedShape, SeatFits, StandsTyped, Width, no_width, seat_ins, seat_outs}
+use Rattle.p3l_template.specs.Typing.{Carry, IsInner, IsTypedShape, SeatFits, StandsTyped, seat_ins, seat_outs}
+use Rattle.p3l_template.specs.Width.{no_width}
+use Rattle.p3l_template.specs.declared.width.Width.{Width}
 use Rattle.p3l_scan.specs.laws.NestedLaw.{no_seats}
 use Rattle.p3l_template.specs.laws.TimesLaw.{numbers_append, times_append, times_cons, times_none}
 

@@ -6,6 +6,7 @@ use Rattle.std.proofs.lemmas.Bool.{cases_eq, cases_lt, cond-true, cond-false, an
 use Rattle.p3l_firing.specs.Token.{newest_tag, peeled}
 use Rattle.p3l_firing.specs.declared.token.Token.{Token}
 use Rattle.p3l_template.specs.Bag.{look, read, each_once, all_within, numbered, IsNumbered}
+pub use Rattle.p3l_template.specs.laws.Lists.{none_left}
 
 pub look_here : (k : ℕ) (x : Token) (xs : List Token) → newest_tag x ≡ k → look k (x ∷ xs) ≡ peeled x ∷ look k xs
 unfolding look
@@ -103,10 +104,6 @@ numbered_to xs c h = record {
 
 pub numbered_from : (xs : List Token) (c : ℕ) → IsNumbered xs c → numbered xs c ≡ true
 numbered_from xs c n = and_from _ _ (once_from xs c (length xs) n.once) (within_from c (c + length xs) xs n.none)
-
-pub none_left : (ts : List Token) → length ts ≡ 0 → ts ≡ []
-none_left [] h = refl
-none_left (t ∷ ts) h = absurd (omega (arith, h))
 
 -- what is read of the other numbers
 without_look : (k : ℕ) (xs : List Token) (x : Token) (ys : List Token) → newest_tag x ≢ k →

@@ -15,8 +15,8 @@ use Rattle.p3l_firing.specs.declared.process.ProcKind.{ProcKind}
 use Rattle.p3l_firing.specs.declared.token.Token.{Token}
 use Rattle.p3l_template.specs.Part.{Part, IsLawfulPart, line, IsInside, IsSameInside, IsAlike, Moves, OneFired, IsFresh, Begins, IsDrained, all_orderly, no_part, due}
 use Rattle.p3l_template.specs.Placed.{IsGoodBase, IsGoodSeat, IsLawfulShape, IsPlaced, HaveRoom, AreLaid, AreChained, proc_end, chan_end, AreBelow}
-use Rattle.p3l_template.specs.Fan.{fanned}
-use Rattle.p3l_template.specs.Shape.{Shape, Role, Base, no_seat, fan_seats}
+use Rattle.p3l_template.specs.Fan.{Fanned, fan_part, fan_shape}
+use Rattle.p3l_template.specs.Shape.{Role, Base, no_seat, fan_seats}
 use Rattle.p3l_template.specs.Units.{Units}
 use Rattle.p3l_template.specs.laws.Chain.{all_at, chain_fires, chain_lies, chain_lawful, chain_input, chain_output, chain_meaning, chain_firings, chain_length, chain_grows, Lies}
 use Rattle.p3l_template.specs.laws.Plain.{plain_empty, plain_room}
@@ -246,25 +246,17 @@ fan_of net units roles n base Ps good h =
       dues = one_due net units roles n base Ps good a;
     }
 
--- the part P lies round the workers
-pub record Holds (base : Base) (n : ℕ) (Ps : List Part) (P : Part) : Type 0 where
-  pub input : P.input ≡ base.input
-  pub output : P.output ≡ base.output
-  pub proc_from : P.proc_from ≡ base.proc
-  pub proc_to : P.proc_to ≡ proc_end (base.proc + 2) Ps
-  pub chan_from : P.chan_from ≡ base.chan
-  pub chan_to : P.chan_to ≡ chan_end (base.chan + (n + n)) Ps
-
 module _ (net : Net) (units : Units) (roles : ℕ → Role) (n : ℕ) (base : Base) (Ps : List Part)
-    (fan : Fan net units roles n base Ps) (P : Part) (h : Holds base n Ps P) where
+    (fan : Fan net units roles n base Ps) (fanned : Fanned) where
+  -- the part round the workers
+  abbrev P : Part
+  P = fan_part n fanned units roles base Ps
+
   pub around_moves : (s t : State) → Around base n s t → Moves P s t
   around_moves s t a = record {
-    tokens = λ c i o f.
-        a.tokens c (λ e. i (e ∙ sym h.input)) (λ e. o (e ∙ sym h.output))
-        (λ g. omega (arith, f (omega (arith, g, h.chan_from)), h.chan_to, fan.all.chans));
+    tokens = λ c i o f. a.tokens c i o (λ g. omega (arith, f g, fan.all.chans));
     own = λ p f.
-        let g : base.proc ≤ p → base.proc + 2 ≤ p = λ g.
-        omega (arith, f (omega (arith, g, h.proc_from)), h.proc_to, fan.all.procs) in
+        let g : base.proc ≤ p → base.proc + 2 ≤ p = λ g. omega (arith, f g, fan.all.procs) in
         a.own p (λ e. omega (arith, e, g (omega (arith, e)))) (λ e. omega (arith, e, g (omega (arith, e))));
     unsent = a.unsent;
     sent = a.sent;
@@ -277,17 +269,13 @@ module _ (net : Net) (units : Units) (roles : ℕ → Role) (n : ℕ) (base : Ba
       let y = fan.all.lies one.which b in
       record {
         tokens = λ c i o out.
-            let far : base.chan ≤ c → chan_end (base.chan + (n + n)) Ps ≤ c = λ f.
-            omega (arith, out (omega (arith, f, h.chan_from)), h.chan_to) in
             one.moves.tokens c
             (λ e. let x = fan.all.input one.which b in
-            absurd (omega (arith, e, x, b, fan.all.chans, far (omega (arith, e, x)))))
+            absurd (omega (arith, e, x, b, fan.all.chans, out (omega (arith, e, x)))))
             (λ e. let x = fan.all.output one.which b in
-            absurd (omega (arith, e, x, b, fan.all.chans, far (omega (arith, e, x)))))
-            (λ f. omega (arith, y.chan_to, far (omega (arith, f, y.chan_from))));
-        own = λ p out.
-            one.moves.own p
-            (λ f. omega (arith, y.proc_to, h.proc_to, out (omega (arith, f, y.proc_from, h.proc_from))));
+            absurd (omega (arith, e, x, b, fan.all.chans, out (omega (arith, e, x)))))
+            (λ f. omega (arith, y.chan_to, out (omega (arith, f, y.chan_from))));
+        own = λ p out. one.moves.own p (λ f. omega (arith, y.proc_to, out (omega (arith, f, y.proc_from))));
         unsent = one.moves.unsent;
         sent = one.moves.sent;
         emitted = one.moves.emitted;
@@ -298,26 +286,23 @@ module _ (net : Net) (units : Units) (roles : ℕ → Role) (n : ℕ) (base : Ba
   same_alike s t same w l =
       let y = fan.all.lies w l in
       (fan.all.lawful w l).reads s t (record {
-        tokens = λ c f u.
-            same.tokens c (omega (arith, f, y.chan_from, h.chan_from)) (omega (arith, u, y.chan_to, h.chan_to));
-        own = λ p f u. same.own p (omega (arith, f, y.proc_from, h.proc_from)) (omega (arith, u, y.proc_to, h.proc_to));
+        tokens = λ c f u. same.tokens c (omega (arith, f, y.chan_from)) (omega (arith, u, y.chan_to));
+        own = λ p f u. same.own p (omega (arith, f, y.proc_from)) (omega (arith, u, y.proc_to));
       })
 
   pub each_begins : (s : State) → IsFresh net P s → (w : ℕ) → w < n → Begins (get_or Ps w no_part) s
   each_begins s fresh w l =
       let y = fan.all.lies w l in
       (fan.all.lawful w l).begins s (record {
-        tokens = λ c f u.
-            fresh.tokens c (omega (arith, f, y.chan_from, h.chan_from)) (omega (arith, u, y.chan_to, h.chan_to));
-        own = λ p f u.
-            fresh.own p (omega (arith, f, y.proc_from, h.proc_from)) (omega (arith, u, y.proc_to, h.proc_to));
+        tokens = λ c f u. fresh.tokens c (omega (arith, f, y.chan_from)) (omega (arith, u, y.chan_to));
+        own = λ p f u. fresh.own p (omega (arith, f, y.proc_from)) (omega (arith, u, y.proc_to));
       })
 
   -- its own channels begin empty
   pub fan_empty : (cap : ℕ) → AreLaid net base.chan (replicate (n + n) (empty_chan cap)) → (s : State) → IsFresh net P s →
       (c : ℕ) → base.chan ≤ c → c < base.chan + (n + n) → s.tokens c ≡ []
   fan_empty cap laid s fresh c f l =
-      fresh.tokens c (omega (arith, f, h.chan_from)) (omega (arith, l, fan.all.chans, h.chan_to))
+      fresh.tokens c f (omega (arith, l, fan.all.chans))
       ∙ subst (λ z. at_first net z ≡ []) (omega (arith, f))
       (plain_empty net base.chan (n + n) cap laid (c - base.chan) (omega (arith, f, l)))
 
@@ -332,8 +317,7 @@ module _ (net : Net) (units : Units) (roles : ℕ → Role) (n : ℕ) (base : Ba
           | inl d ↦ last (subst (λ z. MayFire units.tree units.leaf net s z t) d way)
           | inr d ↦
               one (chain_fires net units roles (base.chan + (n + n)) (base.proc + 2) (base.chan + (n + n)) _ Ps
-              fan.chained (le_refl _) (fan_low base.chan n) s t p (omega (arith, e, d, i.from, h.proc_from))
-              (omega (arith, i.to, h.proc_to)) way)
+              fan.chained (le_refl _) (fan_low base.chan n) s t p (omega (arith, e, d, i.from)) i.to way)
         ]
       ]
 
@@ -344,21 +328,17 @@ module _ (net : Net) (units : Units) (roles : ℕ → Role) (n : ℕ) (base : Ba
   fan_drained s have orderly quiet calm w l e =
       let y = fan.all.lies w l in
       (fan.all.lawful w l).drain s (all_at Ps s orderly w (fan.all.within w l))
-      (λ p i. quiet p
-      (record {
-        from = omega (arith, i.from, y.proc_from, h.proc_from);
-        to = omega (arith, i.to, y.proc_to, h.proc_to);
-      })) calm
+      (λ p i. quiet p (record { from = omega (arith, i.from, y.proc_from); to = omega (arith, i.to, y.proc_to) })) calm
       (room_when_empty net s _ (ap s.tokens (fan.all.output w l) ∙ e)
       (subst (λ z. 0 < (chan_at net z).cap) (sym (fan.all.output w l)) (have.room _ (omega arith) (omega (arith, l)))))
 
 -- once the part of such a shape is lawful, so is the shape
-pub fan_lawful : (first last : ProcKind) (node n : ℕ) (shape : Shape) → 0 < n →
+pub fan_lawful : (first last : ProcKind) (node n : ℕ) (fanned : Fanned) → 0 < n →
     ((net : Net) (units : Units) (roles : ℕ → Role) (base : Base) (parts : List Part) →
-    IsPlaced net units roles (fanned first last node n shape) base parts →
-    IsLawfulPart net units ((fanned first last node n shape).part units roles base parts)) →
-    IsLawfulShape (fanned first last node n shape)
-fan_lawful first last node n shape pos lawful = record {
+    IsPlaced net units roles (fan_shape first last node n fanned) base parts →
+    IsLawfulPart net units (fan_part n fanned units roles base parts)) →
+    IsLawfulShape (fan_shape first last node n fanned)
+fan_lawful first last node n fanned pos lawful = record {
   lawful = lawful;
   lies = λ net units roles base parts placed.
       record {

@@ -1,33 +1,26 @@
 -- The typing of workers between two rows of channels: the rows carry what is said of them (`row_in`, `row_out`), and together
 -- with the two processes before the workers they are read and written once (`fan_reads`, `fan_writes`).
 use Rattle.std.proofs.Common.{◌≡◌, ℕ, zero, suc, ◌+◌, ◌<◌, ◌≤◌, List, [], ◌∷◌, ◌++◌, length, length-append, get_or, replicate, refl, sym, ap, ◌∙◌, subst, arith, append-nil}
-use Rattle.std.proofs.lemmas.List.{length-replicate}
+use Rattle.std.proofs.lemmas.List.{length-replicate, get_or-replicate}
 use Rattle.p3l_skel.specs.declared.tree.Tree.{Tree}
 use Rattle.p3l_skel.specs.Tree.{node_at, part_at}
 use Rattle.p3l_firing.specs.declared.process.ProcKind.{ProcKind}
 use Rattle.p3l_firing.specs.Process.{times}
 use Rattle.p3l_firing.specs.Typed.{FitsKind}
 use Rattle.p3l_firing.specs.Widths.{Widths, Carries, AllCarry}
-use Rattle.p3l_template.specs.Fan.{first_proc, last_proc, fanned}
-use Rattle.p3l_template.specs.Shape.{Shape, Base, numbers_from, fan_seats}
-use Rattle.p3l_template.specs.Typing.{IsTypedShape, IsInner, SeatFits, Width, no_width, Carry, seat_ins, seat_outs}
+use Rattle.p3l_template.specs.Fan.{Fanned, first_proc, last_proc, fan_shape}
+use Rattle.p3l_template.specs.Shape.{Base, numbers_from, fan_seats}
+use Rattle.p3l_template.specs.Typing.{IsTypedShape, IsInner, SeatFits, Carry, seat_ins, seat_outs}
+use Rattle.p3l_template.specs.Width.{no_width, worker_widths}
+use Rattle.p3l_template.specs.declared.width.Width.{Width}
 use Rattle.p3l_template.specs.laws.Fan.{fan_at, fan_length}
 use Rattle.p3l_template.specs.laws.Plain.{plain_credits}
 use Rattle.p3l_template.specs.laws.TimesLaw.{times_append, times_cons, numbers_append, fan_ins, fan_outs, all_numbers}
 
--- n channels of width a, then n of width b
-unfoldable pub rows : ℕ → Width → Width → List Width
-rows n a b = replicate n a ++ replicate n b
-
-pub rows_count : (n : ℕ) (a b : Width) → length (rows n a b) ≡ n + n
-unfolding rows
+-- the channels to n workers, and those from them
+pub rows_count : (n : ℕ) (a b : Width) → length (worker_widths n a b) ≡ n + n
 rows_count n a b =
     length-append (replicate n a) (replicate n b) ∙ omega (arith, length-replicate n a, length-replicate n b)
-
-replicate_at : (n : ℕ) (a d : Width) (k : ℕ) → k < n → get_or (replicate n a) k d ≡ a
-replicate_at zero a d k l = absurd (omega arith)
-replicate_at (suc n) a d zero l = refl
-replicate_at (suc n) a d (suc k) l = replicate_at n a d k (omega arith)
 
 append_left : (n : ℕ) (a : Width) (xs : List Width) (k : ℕ) → k < n → get_or (replicate n a ++ xs) k no_width ≡ a
 append_left zero a xs k l = absurd (omega arith)
@@ -54,24 +47,23 @@ append_few (suc n) a xs most zero h g = h
 append_few (suc n) a xs most (suc k) h g = append_few n a xs most k h g
 
 pub rows_few : (n : ℕ) (a b : Width) (most k : ℕ) → a.tags ≤ most → b.tags ≤ most →
-    (get_or (rows n a b) k no_width).tags ≤ most
-unfolding rows
+    (get_or (worker_widths n a b) k no_width).tags ≤ most
 rows_few n a b most k h g = append_few n a (replicate n b) most k h (λ j. replicate_few n b most j g)
 
-module _ (w : Widths) (c n : ℕ) (a b : Width) (own : Carry w c (rows n a b)) where
+module _ (w : Widths) (c n : ℕ) (a b : Width) (own : Carry w c (worker_widths n a b)) where
   pub in_at : (k : ℕ) → k < n → Carries w (c + k) a.words a.tags
-  unfolding Carry rows
+  unfolding Carry
   in_at k l =
       subst (λ z. Carries w (c + k) z.words z.tags) (append_left n a (replicate n b) k l)
       (own k (omega (arith, l, rows_count n a b)))
 
   pub out_at : (k : ℕ) → k < n → Carries w (c + n + k) b.words b.tags
-  unfolding Carry rows
+  unfolding Carry
   out_at k l =
       let e : c + (n + k) ≡ c + n + k = omega arith in
       subst (λ z. Carries w z b.words b.tags) e
       (subst (λ z. Carries w (c + (n + k)) z.words z.tags)
-      (append_right n a (replicate n b) k ∙ replicate_at n b no_width k l)
+      (append_right n a (replicate n b) k ∙ get_or-replicate n k b no_width l)
       (own (n + k) (omega (arith, l, rows_count n a b))))
 
   pub row_in : AllCarry w (numbers_from c n) a.words a.tags
@@ -105,19 +97,19 @@ fan_writes c output i n =
 
 -- workers that take x words and give y, with `deeper` tags more: such a shape is typed once its two
 -- processes fit there
-pub fan_typed : (tree : Tree) (node n : ℕ) (first last : ProcKind) (shape : Shape) (x y deeper : ℕ) → deeper ≤ 2 →
+pub fan_typed : (tree : Tree) (node n : ℕ) (first last : ProcKind) (fanned : Fanned) (x y deeper : ℕ) → deeper ≤ 2 →
     IsInner first → IsInner last → (node_at tree (part_at tree node 0)).ins ≡ x →
     (node_at tree (part_at tree node 0)).outs ≡ y →
     ((w : Widths) (base : Base) (t : ℕ) → Carries w base.input (node_at tree node).ins t →
     Carries w base.output (node_at tree node).outs t → AllCarry w (numbers_from base.chan n) x (t + deeper) →
     AllCarry w (numbers_from (base.chan + n) n) y (t + deeper) →
     FitsKind first tree w (first_proc first node n base) × FitsKind last tree w (last_proc last node n base)) →
-    IsTypedShape tree node (fanned first last node n shape)
-fan_typed tree node n first last shape x y deeper few in_first in_last takes gives fits =
+    IsTypedShape tree node (fan_shape first last node n fanned)
+fan_typed tree node n first last fanned x y deeper few in_first in_last takes gives fits =
     let a : ℕ → Width = λ t. record { words = x; tags = t + deeper } in
     let b : ℕ → Width = λ t. record { words = y; tags = t + deeper } in
     record {
-      widths = λ t. rows n (a t) (b t);
+      widths = λ t. worker_widths n (a t) (b t);
       deeper = deeper;
       shallow = few;
       count = λ t base. rows_count n (a t) (b t);

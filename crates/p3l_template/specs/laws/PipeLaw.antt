@@ -4,6 +4,7 @@
 use Rattle.std.proofs.Common.{◌≡◌, ℕ, zero, suc, ◌+◌, ◌≤◌, ◌<◌, ◌≢◌, ◌⊎◌, inl, inr, true, false, List, [], ◌∷◌, ◌++◌, map, length, get_or, refl, sym, ap, ap₂, ◌∙◌, subst, arith, append_assoc, append-nil, le_refl, map-id, ◌*◌, ◌-◌, length-append}
 use Rattle.std.proofs.lemmas.Bool.{cases_lt}
 use Rattle.std.proofs.lemmas.List.{map-append, length-map, length-replicate}
+use Rattle.std.proofs.Math.Path.{fun_ext}
 use Rattle.p3l_base.specs.declared.outcome.Outcome.{Outcome}
 use Rattle.p3l_firing.specs.Fire.{can_fire}
 use Rattle.p3l_firing.specs.Ways.{MayFire}
@@ -162,9 +163,6 @@ module _ (net : Net) (units : Units) (roles : ℕ → Role) where
   ports_last u p c x d y (suc k) (P ∷ Ps) h =
       ap (λ z. last_out z Ps) h.0.output ∙ ports_last (suc u) P.proc_to P.chan_to d (suc d) y k Ps h.1
 
-ext : {A B : Type 0} {f g : A → B} → ((x : A) → f x ≡ g x) → f ≡ g
-ext h = λ i x. h x i
-
 pipe_means : (net : Net) (units : Units) (roles : ℕ → Role) (u p c x d y k : ℕ) (Ps : List Part) →
     AreChained net units roles p c (stage_seats u x d y k) Ps → (o : Outcome) → through Ps o ≡ meaning_from roles u k o
 unfolding AreChained stage_seats through meaning_from
@@ -182,7 +180,7 @@ pipe_means net units roles u p c x d y (suc k) (P ∷ Ps) h o =
 
 pipe_meaning : (net : Net) (units : Units) (roles : ℕ → Role) (u p c x d y k : ℕ) (Ps : List Part) →
     AreChained net units roles p c (stage_seats u x d y k) Ps → through Ps ≡ meaning_from roles u k
-pipe_meaning net units roles u p c x d y k Ps h = ext (pipe_means net units roles u p c x d y k Ps h)
+pipe_meaning net units roles u p c x d y k Ps h = fun_ext (pipe_means net units roles u p c x d y k Ps h)
 
 in_exact : (u x c y k w : ℕ) → w < suc k →
     ((w ≡ 0) × ((get_or (stage_seats u x c y k) w no_seat).input ≡ x))

@@ -1,5 +1,6 @@
 -- The typing law of a pipe: the channel after a stage carries the words that the stage gives.
-use Rattle.std.proofs.Common.{◌≡◌, ℕ, zero, suc, ◌+◌, ◌-◌, ◌<◌, ◌≤◌, List, [], ◌∷◌, ◌++◌, length, get_or, refl, sym, ap, ◌∙◌, subst, arith}
+use Rattle.std.proofs.Common.{◌≡◌, ℕ, zero, suc, ◌+◌, ◌-◌, ◌<◌, ◌≤◌, List, [], ◌∷◌, ◌++◌, length, take, get_or, refl, sym, ap, ◌∙◌, subst, arith}
+use Rattle.std.proofs.lemmas.List.{length-map, length-take-le}
 use Rattle.p3l_skel.specs.declared.tree.Tree.{Tree}
 use Rattle.p3l_skel.specs.Tree.{node_at, part_at}
 use Rattle.p3l_skel.specs.Lawful.{IsChain}
@@ -7,25 +8,27 @@ use Rattle.p3l_firing.specs.Process.{times}
 use Rattle.p3l_firing.specs.Widths.{Widths, Carries}
 use Rattle.p3l_template.specs.Pipe.{pipe_shape, stage_seats}
 use Rattle.p3l_template.specs.Shape.{numbers_from, no_seat}
-use Rattle.p3l_template.specs.Typing.{IsTypedShape, IsPipeNode, Width, no_width, Carry, seat_ins, seat_outs}
+use Rattle.p3l_template.specs.Typing.{IsTypedShape, IsPipeNode, Carry, seat_ins, seat_outs}
+use Rattle.p3l_template.specs.Width.{no_width, outs_width, stage_widths}
+use Rattle.p3l_template.specs.declared.width.Width.{Width}
 use Rattle.p3l_template.specs.laws.Plain.{plain_credits}
 use Rattle.p3l_template.specs.laws.TimesLaw.{times_append, times_cons}
 
 -- the widths of the channels after all these stages but the last
-unfoldable stage_widths : Tree → ℕ → List ℕ → List Width
-stage_widths tree t [] = []
-stage_widths tree t (p ∷ []) = []
-stage_widths tree t (p ∷ (q ∷ ps)) = record { words = (node_at tree p).outs; tags = t } ∷ stage_widths tree t (q ∷ ps)
+unfoldable behind_stages : Tree → ℕ → List ℕ → List Width
+behind_stages tree t [] = []
+behind_stages tree t (p ∷ []) = []
+behind_stages tree t (p ∷ (q ∷ ps)) = record { words = (node_at tree p).outs; tags = t } ∷ behind_stages tree t (q ∷ ps)
 
-widths_count : (tree : Tree) (t k : ℕ) (ps : List ℕ) → length ps ≡ suc k → length (stage_widths tree t ps) ≡ k
-unfolding stage_widths
+widths_count : (tree : Tree) (t k : ℕ) (ps : List ℕ) → length ps ≡ suc k → length (behind_stages tree t ps) ≡ k
+unfolding behind_stages
 widths_count tree t k [] e = absurd (omega arith)
 widths_count tree t k (p ∷ []) e = omega arith
 widths_count tree t zero (p ∷ (q ∷ ps)) e = absurd (omega arith)
 widths_count tree t (suc k) (p ∷ (q ∷ ps)) e = ap suc (widths_count tree t k (q ∷ ps) (omega arith))
 
-widths_tags : (tree : Tree) (t : ℕ) (ps : List ℕ) (k : ℕ) → (get_or (stage_widths tree t ps) k no_width).tags ≤ t + 2
-unfolding stage_widths
+widths_tags : (tree : Tree) (t : ℕ) (ps : List ℕ) (k : ℕ) → (get_or (behind_stages tree t ps) k no_width).tags ≤ t + 2
+unfolding behind_stages
 widths_tags tree t [] k = omega arith
 widths_tags tree t (p ∷ []) k = omega arith
 widths_tags tree t (p ∷ (q ∷ ps)) zero = omega arith
@@ -66,10 +69,10 @@ later w c x xs h = λ k l.
 
 module _ (tree : Tree) (w : Widths) (t : ℕ) where
   stage_fits : (u x c y k : ℕ) (i o : ℕ) (ps : List ℕ) → length ps ≡ suc k → IsChain tree i o ps → Carries w x i t →
-      Carries w y o t → Carry w c (stage_widths tree t ps) → (v : ℕ) → v < suc k →
+      Carries w y o t → Carry w c (behind_stages tree t ps) → (v : ℕ) → v < suc k →
       Fits tree w t (get_or ps v 0) (get_or (stage_seats u x c y k) v no_seat).input
       (get_or (stage_seats u x c y k) v no_seat).output
-  unfolding stage_seats stage_widths Carry
+  unfolding stage_seats behind_stages Carry
   stage_fits u x c y k i o [] e chain a b h v l = absurd (omega arith)
   stage_fits u x c y zero i o (p ∷ []) e chain a b h zero l = record {
     input = subst (λ z. Carries w x z t) (sym chain.1) a;
@@ -86,13 +89,13 @@ module _ (tree : Tree) (w : Widths) (t : ℕ) where
       let z : c + 0 ≡ c = omega arith in
       stage_fits (suc u) c (suc c) y k (node_at tree p).outs o (q ∷ ps) (omega arith) chain.2
       (subst (λ z. Carries w z (node_at tree p).outs t) z (h 0 (omega arith))) b
-      (later w c _ (stage_widths tree t (q ∷ ps)) h) v (omega arith)
+      (later w c _ (behind_stages tree t (q ∷ ps)) h) v (omega arith)
 
 pub pipe_typed : (tree : Tree) (node k : ℕ) → length (node_at tree node).parts ≡ suc k →
     IsChain tree (node_at tree node).ins (node_at tree node).outs (node_at tree node).parts →
     IsTypedShape tree node (pipe_shape k)
 pipe_typed tree node k e chain = record {
-  widths = λ t. stage_widths tree t (node_at tree node).parts;
+  widths = λ t. behind_stages tree t (node_at tree node).parts;
   deeper = 0;
   shallow = omega arith;
   count = λ t base. widths_count tree t k (node_at tree node).parts e;
@@ -127,3 +130,11 @@ pipe_typed tree node k e chain = record {
 
 pub pipe_serves : (tree : Tree) (stages node : ℕ) → IsPipeNode tree node stages → IsTypedShape tree node (pipe_shape (stages - 1))
 pipe_serves tree stages node is = pipe_typed tree node (stages - 1) (omega (arith, is.parts, is.some)) is.chain
+
+-- there is a width for each channel between stages
+pub pipe_counted : (tree : Tree) (stages node t : ℕ) → IsPipeNode tree node stages →
+    length (stage_widths tree t (node_at tree node).parts) ≡ stages - 1
+pipe_counted tree stages node t is =
+    let parts : List ℕ = (node_at tree node).parts in
+    length-map (take (length parts - 1) parts) (λ p. outs_width tree p t)
+    ∙ length-take-le (length parts - 1) parts (omega arith) ∙ omega (arith, is.parts)

@@ -2,7 +2,7 @@ use Rattle.std.proofs.Common.{ℕ, ◌<◌}
 use Rattle.p3l_firing.specs.State.{chan_at}
 use Rattle.p3l_net.specs.Shot.{saved_at}
 use Rattle.p3l_fitting.specs.Decided.{QueueFits}
-use Rattle.p3l_fitting.specs.Widths.{width_at}
+use Rattle.p3l_template.specs.Width.{width_at}
 use Rattle.p3l_fitting.proofs.channels.queues_fit.Given as goal
 
 abbrev pub invariant-loop-c : goal.invariant-loop-c

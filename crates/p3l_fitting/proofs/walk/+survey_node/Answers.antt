@@ -1,91 +1,109 @@
 -- Each step of the walk, by the lemmas of Surveying.
-use Rattle.std.proofs.Common.{◌≡◌, ◌<◌, ◌≤◌, length, refl, ap, ◌∙◌, arith}
+use Rattle.std.proofs.Common.{◌+◌, ◌≤◌, length, ap, sym, ◌∙◌, arith, subst}
 use Rattle.p3l_skel.specs.Counts.{count_of}
-use Rattle.p3l_fitting.specs.Survey.{followed}
-use Rattle.p3l_fitting.specs.Widths.{seat_nodes}
-use Rattle.p3l_fitting.specs.declared.survey.Survey.{Survey}
-use Rattle.p3l_fitting.proofs.Surveying.{begin_room, begun_is, bottom_followed, closed, closing, followed_nothing, missing_is, next_is, nodes_are, surveyed_first, surveyed_last, surveyed_next, surveyed_room}
+use Rattle.p3l_template.specs.Kind.{Kind}
+use Rattle.p3l_template.specs.Shape.{Base, FitsAt}
+use Rattle.p3l_link.specs.Shape.{shape_at}
+use Rattle.p3l_link.proofs.AnyKind.{seats_are}
+use Rattle.p3l_link.proofs.Counted.{counted_deep, counted_own, counted_there}
+use Rattle.p3l_fitting.specs.Survey.{base_after}
+use Rattle.p3l_fitting.proofs.Surveying.{closed, own_room, part_counted, part_room, surveyed_first, surveyed_next}
 use Rattle.p3l_fitting.proofs.walk.+survey_node.Goals as goal
 
-pub returns-then-levels-eq0 : goal.returns-then-levels-eq0
-returns-then-levels-eq0 t c =
-    bottom_followed c.args.tree.now (count_of c.args.tree.now c.args.counts.now.list) c.args.levels c.args.number c.args.tags
-    c.args.survey.now.procs (length c.args.survey.now.widths) c.args.survey.now _ c.if-levels-eq0.true refl
+pub template_of-template-requires-clause-there : goal.template_of-template-requires-clause-there
+template_of-template-requires-clause-there t c =
+    counted_there c.args.tree.now (count_of c.args.tree.now c.args.counts.now.list) c.args.levels c.args.number c.requires.counted
 
-pub returns-in_default : goal.returns-in_default
-returns-in_default t c =
-    let some : 0 < c.args.levels = omega (arith, c.if-levels-eq0.false) in
-    let past : length c.args.tree.now.nodes ≤ c.args.number = c.in_default.ensures.past in
-    followed_nothing c.args.survey.now _
-    (missing_is c.args.tree.now (count_of c.args.tree.now c.args.counts.now.list) c.args.levels c.args.number c.args.tags
-    c.args.survey.now.procs (length c.args.survey.now.widths) some past)
+pub template_of-template-requires-clause-count : goal.template_of-template-requires-clause-count
+template_of-template-requires-clause-count t c =
+    counted_own c.args.tree.now (count_of c.args.tree.now c.args.counts.now.list) c.args.levels c.args.number c.requires.counted
+
+pub seats-requires-clause-room : goal.seats-requires-clause-room
+seats-requires-clause-room t c =
+    let tree = c.args.tree.now in
+    let count = count_of c.args.tree.now c.args.counts.now.list in
+    let room = own_room tree count c.args.levels c.args.number c.args.tags c.args.at.now c.args.survey.now c.requires.lawful
+    c.requires.counted c.requires.room in
+    subst (λ (z : Kind). FitsAt z.shape c.place_after-place.result) (sym c.template_of-template.ensures.kind)
+    (subst (FitsAt (shape_at tree count c.args.number)) (sym c.place_after-place.ensures) room)
+
+pub begin-requires-clause-tags : goal.begin-requires-clause-tags
+begin-requires-clause-tags t c =
+    let some = counted_deep c.args.tree.now (count_of c.args.tree.now c.args.counts.now.list) c.args.levels c.args.number c.requires.counted in
+    omega (arith, some, c.requires.tags)
 
 pub begin-requires-clause-room : goal.begin-requires-clause-room
 begin-requires-clause-room t c =
-    let some : 0 < c.args.levels = omega (arith, c.if-levels-eq0.false) in
-    let room = begin_room c.args.tree.now (count_of c.args.tree.now c.args.counts.now.list) c.args.levels c.args.number c.args.tags
-    c.args.survey.now c.in-Some.node.now c.workers-n.result c.in-Some.ensures.found c.workers-n.ensures some in
-    omega (arith, room, c.requires.room)
+    let tree = c.args.tree.now in
+    let count = count_of c.args.tree.now c.args.counts.now.list in
+    let room = own_room tree count c.args.levels c.args.number c.args.tags c.args.at.now c.args.survey.now c.requires.lawful
+    c.requires.counted c.requires.room in
+    subst (λ (z : Kind). c.args.survey.now.procs + length (z.shape.procs c.place_after-place.result) ≤ 1048576) (sym c.template_of-template.ensures.kind)
+    (subst (λ (b : Base). c.args.survey.now.procs + length ((shape_at tree count c.args.number).procs b) ≤ 1048576) (sym c.place_after-place.ensures) room.0)
 
-pub loop-part-init : goal.loop-part-init
-loop-part-init t c =
-    let some : 0 < c.args.levels = omega (arith, c.if-levels-eq0.false) in
-    surveyed_first c.args.tree.now (count_of c.args.tree.now c.args.counts.now.list) c.args.levels c.args.number c.args.tags
-    c.args.survey.now some c.begin.new.survey
-    (begun_is c.args.tree.now (count_of c.args.tree.now c.args.counts.now.list) c.args.levels c.args.number c.args.tags c.args.survey.now
-    c.in-Some.node.now c.workers-n.result c.in-Some.ensures.found c.workers-n.ensures c.begin.new.survey c.in_ok-begin.ensures)
+pub overflow_add-inner_tags : goal.overflow_add-inner_tags
+overflow_add-inner_tags t c =
+    let some = counted_deep c.args.tree.now (count_of c.args.tree.now c.args.counts.now.list) c.args.levels c.args.number c.requires.counted in
+    omega (arith, some, c.requires.tags, c.deeper.ensures.few)
+
+pub loop-seat-init : goal.loop-seat-init
+loop-seat-init t c =
+    surveyed_first c.args.tree.now (count_of c.args.tree.now c.args.counts.now.list) c.args.levels c.args.number c.args.tags c.args.at.now
+    c.args.survey.now c.requires.lawful c.requires.counted _ c.template_of-template.ensures.kind c.place_after-place.result
+    c.place_after-place.ensures c.begin.new.survey c.in_ok-begin.ensures
+
+pub overflow_sub-levels : goal.overflow_sub-levels
+overflow_sub-levels t c =
+    counted_deep c.args.tree.now (count_of c.args.tree.now c.args.counts.now.list) c.args.levels c.args.number c.requires.counted
 
 pub survey_node-requires : goal.survey_node-requires
 survey_node-requires t c =
     let tree = c.args.tree.now in
     let count = count_of c.args.tree.now c.args.counts.now.list in
-    let some : 0 < c.args.levels = omega (arith, c.if-levels-eq0.false) in
-    let items : c.as_slice-part-items.result.now ≡ seat_nodes c.in-Some.node.now c.workers-n.result =
-    c.as_slice-part-items.ensures ∙ c.in_ok-seats.ensures in
-    let all = nodes_are tree count c.args.levels c.args.number c.args.tags c.args.survey.now c.in-Some.node.now c.workers-n.result
-    c.in-Some.ensures.found c.workers-n.ensures c.as_slice-part-items.result.now items in
-    let below = c.loop-part-test.true in
-    let room = surveyed_room tree count c.args.levels c.args.number c.args.tags c.args.survey.now some c.loop-part.survey
-    c.loop-part.part-index c.loop-part.invariant (omega (arith, below, ap length all)) in
-    let next = ap (λ (z : Survey). z.procs)
-    (next_is tree count c.args.levels c.args.number c.args.tags c.args.survey.now c.in-Some.node.now c.workers-n.result
-    c.in-Some.ensures.found c.workers-n.ensures c.as_slice-part-items.result.now c.loop-part.part-index c.deeper.result
-    c.loop-part.survey.procs (length c.loop-part.survey.widths) items c.deeper.ensures.more) in (
+    let items = c.as_slice-seat-items.ensures ∙ seats_are tree count c.args.number c.template_of-template.result
+    c.template_of-template.ensures.kind c.place_after-place.result (base_after c.args.at.now c.args.survey.now) c.place_after-place.ensures _
+    c.in_ok-seats.ensures in
+    let some = counted_deep tree count c.args.levels c.args.number c.requires.counted in
+    let more = c.deeper.ensures.more ∙ ap (λ (z : Kind). z.deeper) c.template_of-template.ensures.kind in (
       omega (arith, some, c.decreases),
-      (omega (arith, some, c.requires.tags, c.deeper.ensures.few), omega (arith, room, next, c.requires.room)),
+      (
+        c.requires.lawful,
+        (
+          part_counted tree count c.args.levels c.args.number c.args.tags c.args.at.now c.args.survey.now c.requires.lawful c.requires.counted
+              c.as_slice-seat-items.result.now items c.loop-seat.survey c.loop-seat.seat-index c.loop-seat.invariant c.loop-seat-test.true
+              _ c.seat-item.result c.seat.view_is c.seat-item.is c.part_of-part.result c.part_of-part.ensures,
+          (
+            omega (arith, some, c.requires.tags, c.deeper.ensures.few),
+            part_room tree count c.args.levels c.args.number c.args.tags c.args.at.now c.args.survey.now c.requires.lawful c.requires.counted
+                c.as_slice-seat-items.result.now items c.loop-seat.survey c.loop-seat.seat-index c.loop-seat.invariant c.loop-seat-test.true
+                _ c.seat-item.result c.seat.view_is c.seat-item.is c.part_of-part.result c.part_of-part.ensures
+                (c.args.tags + c.deeper.result) (ap (λ u. c.args.tags + u) more) c.requires.room,
+          ),
+        ),
+      ),
     )
 
-pub loop-part-preserved : goal.loop-part-preserved
-loop-part-preserved t c =
+pub loop-seat-preserved : goal.loop-seat-preserved
+loop-seat-preserved t c =
     let tree = c.args.tree.now in
     let count = count_of c.args.tree.now c.args.counts.now.list in
-    let some : 0 < c.args.levels = omega (arith, c.if-levels-eq0.false) in
-    let items : c.as_slice-part-items.result.now ≡ seat_nodes c.in-Some.node.now c.workers-n.result =
-    c.as_slice-part-items.ensures ∙ c.in_ok-seats.ensures in
-    let all = nodes_are tree count c.args.levels c.args.number c.args.tags c.args.survey.now c.in-Some.node.now c.workers-n.result
-    c.in-Some.ensures.found c.workers-n.ensures c.as_slice-part-items.result.now items in
-    let below = c.loop-part-test.true in
-    surveyed_next tree count c.args.levels c.args.number c.args.tags c.args.survey.now some c.loop-part.survey c.loop-part.part-index
-    c.loop-part.invariant (omega (arith, below, ap length all)) c.survey_node.new.survey
-    (c.in_ok-survey_node.ensures
-    ∙ ap (followed c.loop-part.survey)
-    (next_is tree count c.args.levels c.args.number c.args.tags c.args.survey.now c.in-Some.node.now c.workers-n.result
-    c.in-Some.ensures.found c.workers-n.ensures c.as_slice-part-items.result.now c.loop-part.part-index c.deeper.result
-    c.loop-part.survey.procs (length c.loop-part.survey.widths) items c.deeper.ensures.more))
+    let items = c.as_slice-seat-items.ensures ∙ seats_are tree count c.args.number c.template_of-template.result
+    c.template_of-template.ensures.kind c.place_after-place.result (base_after c.args.at.now c.args.survey.now) c.place_after-place.ensures _
+    c.in_ok-seats.ensures in
+    let more = c.deeper.ensures.more ∙ ap (λ (z : Kind). z.deeper) c.template_of-template.ensures.kind in
+    surveyed_next tree count c.args.levels c.args.number c.args.tags c.args.at.now c.args.survey.now c.requires.lawful c.requires.counted
+    c.as_slice-seat-items.result.now items c.loop-seat.survey c.loop-seat.seat-index c.loop-seat.invariant c.loop-seat-test.true
+    _ c.seat-item.result c.seat.view_is c.seat-item.is c.part_of-part.result c.part_of-part.ensures
+    (c.args.tags + c.deeper.result) (ap (λ u. c.args.tags + u) more) c.survey_node.new.survey c.in_ok-survey_node.ensures
 
 pub returns : goal.returns
 returns t c =
     let tree = c.args.tree.now in
     let count = count_of c.args.tree.now c.args.counts.now.list in
-    let some : 0 < c.args.levels = omega (arith, c.if-levels-eq0.false) in
-    let items : c.as_slice-part-items.result.now ≡ seat_nodes c.in-Some.node.now c.workers-n.result =
-    c.as_slice-part-items.ensures ∙ c.in_ok-seats.ensures in
-    let all = nodes_are tree count c.args.levels c.args.number c.args.tags c.args.survey.now c.in-Some.node.now c.workers-n.result
-    c.in-Some.ensures.found c.workers-n.ensures c.as_slice-part-items.result.now items in
-    let past = c.loop-part-test.false in
-    closed tree count c.args.levels c.args.number c.args.tags c.args.survey.now some c.loop-part.survey
-    (surveyed_last tree count c.args.levels c.args.number c.args.tags c.args.survey.now some c.loop-part.survey c.loop-part.part-index
-    c.loop-part.invariant (omega (arith, past, ap length all))) c.close.new.survey
-    (closing tree count c.args.levels c.args.number c.args.tags c.args.survey.now c.in-Some.node.now c.workers-n.result
-    c.in-Some.ensures.found c.workers-n.ensures c.loop-part.survey c.close.new.survey c.len-chan_from.result c.len-chan_from.ensures
-    c.in_ok-close.ensures)
+    let items = c.as_slice-seat-items.ensures ∙ seats_are tree count c.args.number c.template_of-template.result
+    c.template_of-template.ensures.kind c.place_after-place.result (base_after c.args.at.now c.args.survey.now) c.place_after-place.ensures _
+    c.in_ok-seats.ensures in
+    closed tree count c.args.levels c.args.number c.args.tags c.args.at.now c.args.survey.now c.requires.lawful c.requires.counted
+    c.as_slice-seat-items.result.now items c.loop-seat.survey c.loop-seat.seat-index c.loop-seat.invariant (omega (arith, c.loop-seat-test.false))
+    c.is_loop.result (c.is_loop.ensures ∙ ap (λ (z : Kind). z.is_loop) c.template_of-template.ensures.kind) c.place_after-place.result
+    c.place_after-place.ensures c.close.new.survey c.in_ok-close.ensures

@@ -13,7 +13,7 @@ abbrev pub invariant-loop-seat : goal.invariant-loop-seat
 invariant-loop-seat l =
     with_piece l.builder
     (inner_pieces (part_piece l.tree (count_of l.tree l.counts.list) l.cap (l.levels - 1) l.number)
-    (drop l.seat ((shape_at l.tree (count_of l.tree l.counts.list) l.number).seats (base_of l.at l.fn.builder)))
+    (drop l.seat-index ((shape_at l.tree (count_of l.tree l.counts.list) l.number).seats (base_of l.at l.fn.builder)))
     (length l.builder.procs) (length l.builder.chans))
     ≡ with_piece l.fn.builder
     (piece_of l.tree (count_of l.tree l.counts.list) l.cap l.levels l.number (base_of l.at l.fn.builder))

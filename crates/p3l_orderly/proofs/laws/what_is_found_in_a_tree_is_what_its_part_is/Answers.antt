@@ -8,10 +8,10 @@ use Rattle.p3l_orderly.proofs.laws.what_is_found_in_a_tree_is_what_its_part_is.G
 
 pub returns-clause-root : goal.returns-clause-root
 unfolding root_part
-returns-clause-root c = λ units counts cap finds s are. node_is_found s units (count_of units.tree counts) cap finds are nesting 0 root_base
+returns-clause-root c = λ units counts cap s. node_is_found s units (count_of units.tree counts) cap nesting 0 root_base
 
 pub returns-clause-leaf : goal.returns-clause-leaf
 unfolding root_part
-returns-clause-leaf c = λ tree one other counts finds s are.
-    node_is_found s (record { tree = tree; leaf = one }) (count_of tree counts) 1 finds are nesting 0 root_base
-    ∙ sym (node_is_found s (record { tree = tree; leaf = other }) (count_of tree counts) 1 finds are nesting 0 root_base)
+returns-clause-leaf c = λ tree one other counts s.
+    node_is_found s (record { tree = tree; leaf = one }) (count_of tree counts) 1 nesting 0 root_base
+    ∙ sym (node_is_found s (record { tree = tree; leaf = other }) (count_of tree counts) 1 nesting 0 root_base)

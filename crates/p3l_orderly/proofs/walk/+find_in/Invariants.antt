@@ -1,13 +1,12 @@
 use Rattle.p3l_skel.specs.Counts.{count_of}
-use Rattle.p3l_orderly.specs.Snapshot.{state_of}
+use Rattle.p3l_template.specs.Snapshot.{state_of}
 use Rattle.p3l_orderly.proofs.WalkSteps.{IsLeft}
 use Rattle.p3l_orderly.proofs.walk.+find_in.Given as goal
 
 abbrev pub decreases-find_in : goal.decreases-find_in
-decreases-find_in g l = l.levels
+decreases-find_in l = l.levels
 
 -- with what is found of the parts that are left, what was found is all
-abbrev pub invariant-loop-part : goal.invariant-loop-part
-invariant-loop-part g l =
-    IsLeft (g.T.Table.finds l.table l.tree (count_of l.tree l.counts.list)) l.tree (count_of l.tree l.counts.list) l.levels l.number l.place
-    (state_of l.snapshot) l.part-index l.proc l.chan l.inner
+abbrev pub invariant-loop-seat : goal.invariant-loop-seat
+invariant-loop-seat l =
+    IsLeft l.tree (count_of l.tree l.counts.list) l.levels l.number l.place (state_of l.snapshot) l.seat-index l.proc l.chan l.inner

@@ -1,27 +1,11 @@
 -- Each turn gives the next port.
-use Rattle.std.proofs.Common.{◌≡◌, ◌+◌, ◌<◌, ◌≤◌, ◌++◌, [], ◌∷◌, ℕ, suc, length, ◌-◌, sym, ap, ap₂, ◌∙◌, arith, append_assoc, length-append}
+use Rattle.std.proofs.Common.{◌+◌, ◌++◌, [], ◌∷◌, length, ◌-◌, sym, ap, ap₂, ◌∙◌, append_assoc, length-append}
 use Rattle.std.proofs.lemmas.List.{replicate-append-replicate}
 use Rattle.p3l_template.specs.Built.{all_ports}
 use Rattle.p3l_template.specs.Pipe.{stage_seats}
 use Rattle.p3l_template.specs.Shape.{empty_chan}
+use Rattle.p3l_template.proofs.StageSeats.{stage_step, stage_end}
 use Rattle.p3l_template.proofs.pipe.PipeTemplateTemplate.place.Goals as goal
-
-stage_step : (v x c y later : ℕ) → v < later →
-    all_ports (stage_seats v x c y (later - v))
-    ≡ record { input = x; output = c } ∷ all_ports (stage_seats (v + 1) c (c + 1) y (later - (v + 1)))
-unfolding stage_seats
-stage_step v x c y later h =
-    let e : later - v ≡ suc (later - (v + 1)) = omega arith in
-    ap (λ k. all_ports (stage_seats v x c y k)) e
-    ∙ ap₂ (λ a b. record { input = x; output = c } ∷ all_ports (stage_seats a c b y (later - (v + 1)))) (omega arith)
-    (omega arith)
-
-stage_end : (v x c y later : ℕ) → later ≤ v →
-    all_ports (stage_seats v x c y (later - v)) ≡ record { input = x; output = y } ∷ []
-unfolding stage_seats
-stage_end v x c y later h =
-    let e : later - v ≡ 0 = omega arith in
-    ap (λ k. all_ports (stage_seats v x c y k)) e
 
 pub loop-stage-preserved : goal.loop-stage-preserved
 loop-stage-preserved c =
@@ -44,7 +28,7 @@ loop-stage-preserved c =
           ++ (record { input = c.loop-stage.input; output = z } ∷ all_ports (stage_seats
           (c.loop-stage._stage + 1) z (length c.loop-stage.builder.chans + 1) c.args.at.now.output
           ((c.args.self.now.stages - 1) - (c.loop-stage._stage + 1))))) c.in_ok-output.ensures.number
-          ∙ ap (λ z. c.loop-stage.ports ++ z)
+          ∙ ap (λ z. c.loop-stage.ports ++ all_ports z)
           (sym (stage_step c.loop-stage._stage c.loop-stage.input
           (length c.loop-stage.builder.chans) c.args.at.now.output (c.args.self.now.stages - 1) c.loop-stage-test.true))
           ∙ i.ports;
@@ -53,7 +37,7 @@ loop-stage-preserved c =
 pub returns-clause-ports : goal.returns-clause-ports
 returns-clause-ports c =
     c.in_ok-push-2.ensures.ok
-    ∙ ap (λ z. c.loop-stage.ports ++ z)
+    ∙ ap (λ z. c.loop-stage.ports ++ all_ports z)
     (sym (stage_end c.loop-stage._stage c.loop-stage.input
     (length c.loop-stage.builder.chans) c.args.at.now.output (c.args.self.now.stages - 1) c.loop-stage-test.false))
     ∙ c.loop-stage.invariant.ports

@@ -1,5 +1,0 @@
-use Rattle.p3l_orderly.proofs.MapSteps.{IsTaking}
-use Rattle.p3l_orderly.proofs.map.add_by_turns.Given as goal
-
-abbrev pub invariant-loop-turn : goal.invariant-loop-turn
-invariant-loop-turn l = IsTaking l.number l.lines l.initial.list l._turn l.list l.taken.items

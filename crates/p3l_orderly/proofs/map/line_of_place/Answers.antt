@@ -1,7 +1,0 @@
-use Rattle.std.proofs.Common.{refl}
-use Rattle.p3l_map.specs.Map.{spot}
-use Rattle.p3l_orderly.proofs.map.line_of_place.Goals as goal
-
-pub returns : goal.returns
-unfolding spot
-returns c = refl

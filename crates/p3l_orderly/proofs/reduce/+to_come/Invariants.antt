@@ -1,4 +1,0 @@
-use Rattle.p3l_orderly.proofs.reduce.+to_come.Given as goal
-
-abbrev pub decreases-to_come : goal.decreases-to_come
-decreases-to_come l = l.depth
