@@ -1,5 +1,5 @@
 -- The steps of the walk over a tree in code: what was found so far, with what is found at the seats that are left, is all.
-use Rattle.std.proofs.Common.{◌≡◌, ℕ, zero, suc, ◌+◌, ◌-◌, ◌<◌, ◌≤◌, ◌&&◌, Bool, true, false, Option, Some, None, cond, List, [], ◌∷◌, ◌++◌, length, get_or, map, drop, drop-cons, refl, sym, ap, ap₂, ◌∙◌, subst, subst₂, arith, append_assoc, append-nil, length-append}
+use Rattle.std.proofs.Common.{◌≡◌, ℕ, zero, suc, ◌+◌, ◌-◌, ◌<◌, ◌≤◌, ◌&&◌, Bool, true, false, Option, Some, None, cond, List, [], ◌∷◌, ◌++◌, length, get_or, drop, drop-cons, refl, sym, ap, ap₂, ◌∙◌, subst, subst₂, arith, append_assoc, append-nil, length-append}
 use Rattle.std.proofs.lemmas.Bool.{cond-false}
 use Rattle.std.proofs.lemmas.List.{drop_all, get_or_default, length-map}
 use Rattle.p3l_skel.specs.declared.tree.Tree.{Tree}
@@ -326,16 +326,16 @@ module _ (tree : Tree) (count : ℕ → ℕ) (levels k : ℕ) (base : Base) (s :
             (subst (λ d. IsCounted tree count d k) e counted))
 
         module _ (p c : ℕ) (b : Base) (place : b ≡ base_at x p c) where
-          abbrev here : Piece
-          here = walk_piece tree count (levels - 1) part b
+          abbrev placed : Piece
+          placed = walk_piece tree count (levels - 1) part b
 
           abbrev there_found : Option Found
-          there_found = found_at (walk_found tree count (levels - 1) part b s) here b
+          there_found = found_at (walk_found tree count (levels - 1) part b s) placed b
 
           base_is : b ≡ base_at (get_or seats i no_seat) p c
           base_is = place ∙ ap (λ (z : Seat). base_at z p c) seat_is
 
-          pub part_room : (inner : List (List Token)) → IsLeft i p c inner → HasRoomAt (walk_piece tree count levels k base) base → HasRoomAt here b
+          pub part_room : (inner : List (List Token)) → IsLeft i p c inner → HasRoomAt (walk_piece tree count levels k base) base → HasRoomAt placed b
           part_room inner left room =
               subst₂ (λ n (z : Base). HasRoomAt (walk_piece tree count (levels - 1) n z) z) (sym part_there) (sym base_is)
               (left_room i p c inner left below (whole_room room))
