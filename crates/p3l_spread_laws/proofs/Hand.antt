@@ -1,5 +1,5 @@
 -- The steps of the nets that were worked out by hand.
-use Rattle.std.proofs.Common.{◌≡◌, ◌≢◌, ℕ, zero, suc, ◌+◌, ◌≤◌, ◌<◌, true, inl, inr, List, [], ◌∷◌, ◌++◌, length, nat_lt, slice_index, Some, refl, sym, ap, ◌∙◌, arith, le_refl, append-nil}
+use Rattle.std.proofs.Common.{◌≡◌, ℕ, zero, suc, ◌+◌, ◌≤◌, ◌<◌, true, inl, inr, [], ◌∷◌, ◌++◌, length, nat_lt, slice_index, Some, refl, sym, ap, ◌∙◌, arith, le_refl, append-nil}
 use Rattle.p3l_ready.specs.At.{at}
 use Rattle.p3l_ready.proofs.AtLemmas.{at-other}
 use Rattle.p3l_skel.specs.Tree.{by_parts}
@@ -11,14 +11,14 @@ use Rattle.p3l_firing.specs.Nodes.{turns_of, spent_of, test_of}
 use Rattle.p3l_firing.specs.Run.{picked, after_picks}
 use Rattle.p3l_firing.specs.State.{State, chan_at, pop, push, set_own, has_room, at_first, first_state}
 use Rattle.p3l_firing.specs.Token.{credit, first_tag, later_tags, next_tag, has_trap}
-use Rattle.p3l_firing.specs.Ways.{Deals, Sees, row_ways, ways_of}
+use Rattle.p3l_firing.specs.Ways.{Sees, row_ways, ways_of}
 use Rattle.p3l_firing.specs.kinds.Emit as emit
 use Rattle.p3l_firing.specs.kinds.Head as head
 use Rattle.p3l_firing.specs.kinds.Run as run
 use Rattle.p3l_firing.specs.kinds.Source as source
 use Rattle.p3l_firing.specs.kinds.Tail as tail
 use Rattle.p3l_spread_laws.specs.Examples.{FarmValues, LoopValues, WireValues, come_wire, counts, dealt, deals, late_credit, late_token, late_wire, lets_in, round_token, second, seen_token, told_credit, went_round}
-use Rattle.p3l_spread_laws.specs.Spread.{Fires, IsDelivered, IsQuiet, IsSound, Learns, Shifts, Spread, view}
+use Rattle.p3l_spread_laws.specs.Spread.{Shifts, Spread, view}
 use Rattle.p3l_spread_laws.specs.Wire.{Comes, IsExact}
 
 -- a channel in which nothing changed

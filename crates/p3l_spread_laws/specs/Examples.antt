@@ -1,9 +1,7 @@
 -- Steps of small nets on several ranks, worked out by hand: a farm of two whose emit is told late of room, and a loop in which a
 -- token comes back late.
-use Rattle.std.specs.Prelude.{◌≡◌, ℕ, ℤ, pos, List, [], ◌∷◌, length, map, slice_index_or, Some}
-use Rattle.p3l_base.specs.declared.outcome.Outcome.{Outcome}
+use Rattle.std.specs.Prelude.{◌≡◌, ℕ, pos, List, [], ◌∷◌, length, map, slice_index_or, Some}
 use Rattle.p3l_base.specs.declared.outcome.Outcome.TheVariants.{Value}
-use Rattle.p3l_firing.specs.declared.process.Proc.{Proc}
 use Rattle.p3l_firing.specs.declared.process.ProcKind.TheVariants.{Emit, Head}
 use Rattle.p3l_firing.specs.declared.token.Token.{Token}
 use Rattle.p3l_firing.specs.Examples.{at_root, farm_net, farm_tree, half_leaf, loop_leaf, loop_net, loop_tree, two_items}
