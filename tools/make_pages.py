@@ -29,6 +29,10 @@ TYPED_WIDTH = WIDTH - 7 + len(TYPED)
 # How the sources write a number of refusal with its name: as two rows of matches, or in a line.
 NUMBERED = re.compile(r"\b(?:Line)?Fault::(\w+) => (\d+),")
 PRINTED = re.compile(r'"(?:\w+: )?(\d+) ([A-Z]\w+)')
+# How the sources write a row of the table of commands, an option in it, and the name of a value.
+ROW = re.compile(r'\(\s*Verb::\w+,\s*"([a-z-]+)",\s*&\[(.*?)\]', re.S)
+OPTION = re.compile(r"\b(?:Mandatory|Optional|Flag)\((\w+)\)")
+NAMED = re.compile(r'((?:\|? ?Value::\w+ )+)=> "([a-z]+)"')
 OVERSTRUCK = re.compile(r".\x08")
 PLACES = {
     "man": "man/man1/p3l.1",
@@ -57,6 +61,16 @@ def documented():
     return commands, dict(re.findall(r"\| (\d+) \| (\w+) (?=\|)", table))
 
 
+def parsed():
+    """The options of each command, as the table of the sources has them."""
+    words, table = (ROOT / f"crates/p3l_opts/src/{it}.rt" for it in ("word", "table"))
+    names = {}
+    for values, name in NAMED.findall(words.read_text()):
+        names |= dict.fromkeys(re.findall(r"Value::(\w+)", values), f"--{name}")
+    rows = ROW.findall(table.read_text())
+    return {name: sorted(names[it] for it in OPTION.findall(row)) for name, row in rows}
+
+
 def refusals():
     """Each number of refusal that the program can print, with its name, by the sources."""
     found = {}
@@ -76,10 +90,8 @@ def faults_of_commands(pages):
     paged = {it.name: sorted(option.name for option in it.options()) for it in pages.commands}
     if paged != {name: sorted(options) for name, options in commands.items()}:
         yield f"commands and options: {paged} in the pages, {commands} in docs/COMMANDS.md"
-    verbs = (ROOT / "crates/p3l_opts/src/verb.rt").read_text()
-    parsed = set(re.findall(r'is_word\(word, "([a-z-]+)"\)', verbs))
-    if parsed != set(paged):
-        yield f"commands: {sorted(parsed)} in p3l_opts, {sorted(paged)} in the pages"
+    if paged != parsed():
+        yield f"commands and options: {paged} in the pages, {parsed()} in p3l_opts"
     for command in pages.commands:
         if not command.summary:
             yield f"{command.name} has no line in the list of commands"

@@ -14,3 +14,5 @@ pub mod Puts
 pub mod Sizes
 pub mod FunctionLists
 pub mod Weights
+pub mod Kept
+pub mod Identifiers

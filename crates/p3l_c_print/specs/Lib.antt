@@ -5,3 +5,4 @@ pub mod Plain
 pub mod Value
 pub mod Function
 pub mod Bodies
+pub mod Laws

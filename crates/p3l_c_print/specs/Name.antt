@@ -1,6 +1,7 @@
 -- The identifiers of C for the variables of a body, and literals for its constants.
-use Rattle.std.specs.Prelude.{ℕ, ℤ, pos, negsuc, ◌+◌, ◌-◌, ◌^◌, ◌==◌, List, [], ◌∷◌, ◌++◌, map, codes, Option, Some, None, bytes_eq, is_some, if◌then◌else◌}
+use Rattle.std.specs.Prelude.{ℕ, ℤ, pos, negsuc, ◌+◌, ◌-◌, ◌^◌, ◌==◌, List, [], ◌∷◌, ◌++◌, map, take, codes, Option, Some, None, bytes_eq, is_some, if◌then◌else◌}
 use Rattle.std.specs.Fmt.{decimal}
+use Rattle.std.specs.Fmt.Cut.{floor_char_boundary}
 use Rattle.std.specs.Map.{lookup}
 use Rattle.p3l_types.specs.Constants.{Constants, constant_of}
 use Rattle.p3l_body.specs.declared.var.Var.{Var}
@@ -26,13 +27,22 @@ kind_text In = codes "in"
 kind_text Out = codes "out"
 kind_text Local = codes "v"
 
--- 6.4.2.1p6, 5.2.4.1: only the first 63 characters tell identifiers apart, so they begin with a number
-abbrev pub place_text : List ℕ → Place → List ℕ
-place_text name place = kind_text place.kind ++ (decimal place.number ++ (codes "_" ++ name))
+-- 6.4.2.1p6, 5.2.4.1: every compiler tells identifiers apart by their first 63 characters. Before the name
+-- stand at most 24: `out`, the 20 digits of a number, and `_`.
+abbrev pub most_kept : ℕ
+most_kept = 39
 
--- a constant is written as its number, with its name in a comment
+-- the first characters of a name, which an identifier has
+unfoldable pub kept_name : List ℕ → List ℕ
+kept_name name = take (floor_char_boundary name most_kept) name
+
+-- the identifier of a variable: the number tells it from those of its kind
+abbrev pub place_text : List ℕ → Place → List ℕ
+place_text name place = kind_text place.kind ++ (decimal place.number ++ (codes "_" ++ kept_name name))
+
+-- a constant is written as its number, with its name in a comment; a checked body has no other name
 abbrev pub constant_text : List ℕ → Option ℤ → List ℕ
-constant_text name None = name
+constant_text name None = kept_name name
 constant_text name (Some value) = literal_text value ++ (codes " /* " ++ (name ++ codes " */"))
 
 abbrev pub found_text : Names → List ℕ → Option Place → List ℕ

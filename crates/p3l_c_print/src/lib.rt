@@ -6,6 +6,7 @@ pub mod count;
 pub mod expression;
 pub mod function;
 pub mod guard;
+pub mod laws;
 pub mod line;
 pub mod names;
 pub mod operator;

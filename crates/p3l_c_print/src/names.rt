@@ -6,7 +6,7 @@ ghost use Rattle.std.specs.Option.{option_copied};
 ghost use Rattle.p3l_base.specs.Memory.{IfGiven, OnGiven};
 ghost use Rattle.p3l_body.specs.Seq.{seq_tree};
 ghost use Rattle.p3l_c.specs.Translate.{sizes_at};
-ghost use Rattle.p3l_c_print.specs.Name.{literal_text, kind_text, place_text, constant_text, name_text, entered, all_entered, names_of, shapes_of};
+ghost use Rattle.p3l_c_print.specs.Name.{literal_text, kind_text, kept_name, place_text, constant_text, name_text, entered, all_entered, names_of, shapes_of};
 
 use crate::text::Text;
 use indexmap::IndexMap;
@@ -15,6 +15,9 @@ use p3l_body::{CheckedSeq, Var};
 use p3l_types::Consts;
 use std::alloc::Global;
 use std::marker::Model;
+
+/// The bytes of a name that an identifier has at most.
+const MOST_KEPT: usize = 39;
 
 /// The kind of a variable: its identifier begins with it.
 #[derive(Clone, Copy, Debug, Drop, PartialEq, Eq)]
@@ -77,6 +80,13 @@ fn kind_text(kind: Kind) -> &'static str
         Kind::Out => "out",
         Kind::Local => "v",
     }
+}
+
+/// The first characters of a name, which an identifier has.
+fn kept_name(name: &str) -> &str
+    ensures { result.now ≡ kept_name name.now }
+{
+    &name[..name.floor_char_boundary(MOST_KEPT)]
 }
 
 impl<'c> Names<'c> {
@@ -167,8 +177,8 @@ impl<'c> Names<'c> {
     {
         let kind = kind_text(place.kind);
         let number = place.number;
-        let name = name.as_str();
-        Ok(Text::of(format!(in self.alloc; "{kind}{number}_{name}")?))
+        let kept = kept_name(name.as_str());
+        Ok(Text::of(format!(in self.alloc; "{kind}{number}_{kept}")?))
     }
 
     fn constant(&self, name: &Name) -> Result<Text, NoMemory>
@@ -182,7 +192,7 @@ impl<'c> Names<'c> {
                 let name = name.as_str();
                 Ok(Text::of(format!(in self.alloc; "{number} /* {name} */")?))
             }
-            None => Ok(Text::of(String::from_str(self.alloc, name.as_str())?)),
+            None => Ok(Text::of(String::from_str(self.alloc, kept_name(name.as_str()))?)),
         }
     }
 }

@@ -1,8 +1,8 @@
 // Modules as the entries after them see them.
 
+use crate::Wired;
 use p3l_body::Ports;
 use p3l_skel::ModuleInfo;
-use crate::Wired;
 
 /// A module: its name and kind, its ports, and its calls with what its instances are.
 #[derive(Debug, Drop)]

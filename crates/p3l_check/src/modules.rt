@@ -9,11 +9,11 @@ ghost use Rattle.p3l_check.specs.Wiring.{module_at};
 ghost use Rattle.p3l_check.specs.Refusing.{IsUnfolded, IsRefused};
 
 use crate::defined::Defined;
+use crate::{UnfoldRefusal, Wired, unfold};
 use indexmap::IndexMap;
 use p3l_base::{List, Name, NoMemory};
 use p3l_body::Ports;
 use p3l_skel::{ModuleInfo, Tree};
-use crate::{UnfoldRefusal, Wired, unfold};
 use std::alloc::Global;
 use std::marker::Model;
 

@@ -14,6 +14,7 @@ ghost use Rattle.p3l_check.specs.Places.{defined_from};
 ghost use Rattle.p3l_check.specs.Many.{GivesUnlessMany};
 ghost use Rattle.p3l_check.specs.Entry.{none_checked, checked_of, checked_result, new_name, ports_in, body_in, body_tree, kind_in, info_of, defined_as, defined_in, added_result, with_body, with_passed, passed_result, checked_module, checked_entry, checked_entries};
 
+use crate::Wired;
 use crate::clauses::rescue_in;
 use crate::defined::Defined;
 use crate::environment::Environment;
@@ -25,7 +26,6 @@ use p3l_base::{List, Name, NoMemory};
 use p3l_body::{CheckedSeq, Ports, Scope, Var, check_body, ports_of};
 use p3l_skel::{ModuleInfo, ModuleKind};
 use p3l_types::{Consts, words_of};
-use crate::Wired;
 use std::alloc::Global;
 use std::mem;
 

@@ -9,6 +9,7 @@ ghost use Rattle.p3l_check.specs.Many.{GivesUnlessMany};
 ghost use Rattle.p3l_check.specs.Wired.{AreWired};
 ghost use Rattle.p3l_check.specs.Entry.{checked_of};
 
+use crate::UnfoldRefusal;
 use crate::modules::Modules;
 use crate::places::spot_of;
 use crate::progress::Progress;
@@ -16,7 +17,6 @@ use p3l_ast::{Entry, Fault, Pos, Program, SourceRefusal};
 use p3l_base::{List, Name};
 use p3l_body::CheckedSeq;
 use p3l_skel::Tree;
-use crate::UnfoldRefusal;
 use std::alloc::Global;
 
 /// A program that keeps the rules: its tree, and the bodies of its `seq` modules in the order of the

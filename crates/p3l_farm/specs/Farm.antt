@@ -1,5 +1,5 @@
 -- The template of a farm on demand.
-use Rattle.std.specs.Prelude.{◌≡◌, ℕ, ◌+◌, ◌-◌, ◌<◌, Option, ◌&&◌, Bool, true, List, [], ◌∷◌, ◌++◌, length, nat_eq, nat_lt}
+use Rattle.std.specs.Prelude.{◌≡◌, ℕ, ◌+◌, ◌-◌, ◌<◌, Option, ◌&&◌, Bool, true, List, [], ◌∷◌, ◌++◌, length, get_or, nat_eq, nat_lt}
 use Rattle.p3l_skel.specs.declared.tree.Form.TheVariants.{Farm}
 use Rattle.p3l_skel.specs.declared.tree.Tree.{Tree}
 use Rattle.p3l_skel.specs.Counts.{IsLawfulCount}
@@ -12,8 +12,9 @@ use Rattle.p3l_firing.specs.State.{State}
 use Rattle.p3l_firing.specs.Token.{newest_tag}
 use Rattle.p3l_template.specs.Bag.{read, numbered}
 use Rattle.p3l_template.specs.Fan.{Fanned, fan_part, fan_shape, first_proc, last_proc}
-use Rattle.p3l_template.specs.Part.{Part, line, all_orderly, due}
+use Rattle.p3l_template.specs.Part.{Part, line, no_part, all_orderly, due}
 use Rattle.p3l_template.specs.Shape.{Shape, Role, Base}
+use Rattle.p3l_template.specs.Sum.{sum_of}
 use Rattle.p3l_template.specs.Units.{Units}
 
 -- all these tokens have greater numbers than k
@@ -59,11 +60,6 @@ unfoldable pub lines_of : List Part → State → List (List Token)
 lines_of [] s = []
 lines_of (P ∷ Ps) s = line P s ∷ lines_of Ps s
 
--- the work that is left in the workers
-unfoldable pub dues : List Part → State → ℕ
-dues [] s = 0
-dues (P ∷ Ps) s = due P s + dues Ps s
-
 -- Emit reads what comes in, and writes the in channels of the workers
 abbrev pub emit_proc : ℕ → ℕ → Base → Proc
 emit_proc = first_proc Emit
@@ -82,23 +78,24 @@ view_of base parts s =
       output = s.tokens base.output;
     }
 
--- what a farm makes of its workers
-abbrev pub farmed : Fanned
-farmed =
+-- what a farm makes of its n workers
+abbrev pub farmed : ℕ → Fanned
+farmed n =
     record {
       meaning = λ units roles. (roles 0).meaning;
       firings = λ units roles. 2 + (roles 0).firings;
       pending = λ units roles base parts s. to_come (view_of base parts s);
       orderly = λ units roles base parts s. all_orderly parts s && well_kept (view_of base parts s);
-      owed = λ units roles base parts s. dues parts s + ((s.own base.proc).number - (s.own (base.proc + 1)).number);
+      owed = λ units roles base parts s.
+          sum_of (λ w. due (get_or parts w no_part) s) n + ((s.own base.proc).number - (s.own (base.proc + 1)).number);
     }
 
 abbrev pub farm_part : ℕ → Units → (ℕ → Role) → Base → List Part → Part
-farm_part n = fan_part n farmed
+farm_part n = fan_part n (farmed n)
 
 -- a farm of n workers
 abbrev pub farm_shape : (node n : ℕ) → Shape
-farm_shape node n = fan_shape Emit Collect node n farmed
+farm_shape node n = fan_shape Emit Collect node n (farmed n)
 
 -- a node of a tree that is a farm of n workers
 pub record IsFarmNode (tree : Tree) (node n : ℕ) : Type 0 where

@@ -2,8 +2,11 @@
 
 use crate::page::Page;
 
-/// The page of `run`.
-const RUN: &str = "usage: p3l run PROGRAM --processors P [--costs FILE] [--schedule S]
+/// A page for each command, by its first word.
+pub(crate) const COMMANDS: &[Page] = &[
+    Page {
+        topic: "run",
+        text: "usage: p3l run PROGRAM --processors P [--costs FILE] [--schedule S]
                [--capacity C] [--trace FILE] [--stats]
 
 Reads items from the standard input, one a line, and writes one line for each
@@ -22,10 +25,11 @@ does not make the run faster.
   --stats          put a line on the run's numbers on the standard error
 
 example: p3l run m.p3l --processors 16 --schedule seed:7 < items
-";
-
-/// The page of `compile`.
-const COMPILE: &str = "usage: p3l compile PROGRAM --processors P --output FILE [--costs FILE]
+",
+    },
+    Page {
+        topic: "compile",
+        text: "usage: p3l compile PROGRAM --processors P --output FILE [--costs FILE]
                    [--capacity C]
 
 Writes the image of a program to a file: its tree, the worker counts that are
@@ -41,10 +45,28 @@ program nor its costs.
                    given)
 
 example: p3l compile m.p3l --processors 16 --output m.img
-";
+",
+    },
+    Page {
+        topic: "exec",
+        text: "usage: p3l exec IMAGE [--schedule S] [--trace FILE] [--stats]
 
-/// The page of `migrate`.
-const MIGRATE: &str = "usage: p3l migrate IMAGE --output FILE
+Reads items from the standard input, one a line, and writes one line for each
+result, as the program does that the image was compiled from. An image that is
+not lawful, safe and linked is refused.
+
+  IMAGE            the file of the image
+  --schedule S     how processes take turns: rr (the default), seed:N or
+                   file:NAME
+  --trace FILE     where to write the trace of the run, when it has ended
+  --stats          put a line on the run's numbers on the standard error
+
+example: p3l exec m.img --schedule seed:7 < items
+",
+    },
+    Page {
+        topic: "migrate",
+        text: "usage: p3l migrate IMAGE --output FILE
 
 Reads an image of any version, relinks its network from its tree and its counts,
 and writes the image in the newest version to a file. An image whose tree or
@@ -56,10 +78,11 @@ longer than the old one: one of more than 67,108,864 bytes is written, but
   --output FILE    where to write the image
 
 example: p3l migrate old.img --output new.img
-";
-
-/// The page of `export`.
-const EXPORT: &str = "usage: p3l export PROGRAM --processors P --output FILE [--costs FILE]
+",
+    },
+    Page {
+        topic: "export",
+        text: "usage: p3l export PROGRAM --processors P --output FILE [--costs FILE]
                   [--capacity C]
 
 Writes a program as one C11 file that needs no other: its functions are the
@@ -85,43 +108,11 @@ of ranks.
                    given, it is chosen for each channel by the costs
 
 example: p3l export m.p3l --processors 16 --output m.c
-";
-
-/// The page of `graph`.
-const GRAPH: &str = "usage: p3l graph PROGRAM --processors P [--costs FILE] [--capacity C]
-
-Writes the network that run would run, as a text in the DOT language: a box for
-each process with its number, what it does and its module, an arrow for each
-channel with its capacity, and a frame round the processes of each skeleton.
-
-  PROGRAM          the file of the program
-  --processors P   how many processors there are, 1 to 512
-  --costs FILE     the costs by which worker counts are chosen; without them the
-                   standard costs
-  --capacity C     how many tokens a channel holds at most, 1 to 1,024 (4 if not
-                   given)
-
-example: p3l graph m.p3l --processors 16 | dot -Tsvg > m.svg
-";
-
-/// The page of `exec`.
-const EXEC: &str = "usage: p3l exec IMAGE [--schedule S] [--trace FILE] [--stats]
-
-Reads items from the standard input, one a line, and writes one line for each
-result, as the program does that the image was compiled from. An image that is
-not lawful, safe and linked is refused.
-
-  IMAGE            the file of the image
-  --schedule S     how processes take turns: rr (the default), seed:N or
-                   file:NAME
-  --trace FILE     where to write the trace of the run, when it has ended
-  --stats          put a line on the run's numbers on the standard error
-
-example: p3l exec m.img --schedule seed:7 < items
-";
-
-/// The page of `explain`.
-const EXPLAIN: &str = "usage: p3l explain PROGRAM --processors P [--costs FILE] [--cert FILE]
+",
+    },
+    Page {
+        topic: "explain",
+        text: "usage: p3l explain PROGRAM --processors P [--costs FILE] [--cert FILE]
 
 Writes the worker counts that are chosen for a program, with the processes and
 the service time of the whole and of each part.
@@ -132,10 +123,11 @@ the service time of the whole and of each part.
   --cert FILE      where to write a certificate that no other counts are better
 
 example: p3l explain m.p3l --processors 16 --cert m.cert
-";
-
-/// The page of `advise`.
-const ADVISE: &str = "usage: p3l advise PROGRAM [--processors P] [--costs FILE] [--processes]
+",
+    },
+    Page {
+        topic: "advise",
+        text: "usage: p3l advise PROGRAM [--processors P] [--costs FILE] [--processes]
 
 Says what processors buy. For each number of them at which the best service time
 falls there is a line with that time and the speed-up over the fewest that fit.
@@ -149,10 +141,29 @@ bottleneck marked, and then what would help.
                    numbers that graph, time and traces name
 
 example: p3l advise m.p3l --costs m.toml
-";
+",
+    },
+    Page {
+        topic: "graph",
+        text: "usage: p3l graph PROGRAM --processors P [--costs FILE] [--capacity C]
 
-/// The page of `verify-cert`.
-const VERIFY_CERT: &str = "usage: p3l verify-cert PROGRAM --cert FILE [--costs FILE]
+Writes the network that run would run, as a text in the DOT language: a box for
+each process with its number, what it does and its module, an arrow for each
+channel with its capacity, and a frame round the processes of each skeleton.
+
+  PROGRAM          the file of the program
+  --processors P   how many processors there are, 1 to 512
+  --costs FILE     the costs by which worker counts are chosen; without them the
+                   standard costs
+  --capacity C     how many tokens a channel holds at most, 1 to 1,024 (4 if not
+                   given)
+
+example: p3l graph m.p3l --processors 16 | dot -Tsvg > m.svg
+",
+    },
+    Page {
+        topic: "verify-cert",
+        text: "usage: p3l verify-cert PROGRAM --cert FILE [--costs FILE]
 
 Checks a certificate that worker counts of a program are the best for some
 processors, whoever wrote it, and writes what the counts come to.
@@ -162,10 +173,11 @@ processors, whoever wrote it, and writes what the counts come to.
   --costs FILE     the costs of its modules; without them the standard costs
 
 example: p3l verify-cert m.p3l --cert m.cert
-";
-
-/// The page of `check-trace`.
-const CHECK_TRACE: &str = "usage: p3l check-trace PROGRAM --processors P --trace FILE [--costs FILE]
+",
+    },
+    Page {
+        topic: "check-trace",
+        text: "usage: p3l check-trace PROGRAM --processors P --trace FILE [--costs FILE]
                        [--capacity C]
 
 Says whether a trace is that of a run of the program on the items of the
@@ -181,10 +193,11 @@ standard input, or tells the first line that differs; the trace of `p3l run
                    given)
 
 example: p3l check-trace m.p3l --processors 16 --trace m.trace < items
-";
-
-/// The page of `check`.
-const CHECK: &str = "usage: p3l check PROGRAM
+",
+    },
+    Page {
+        topic: "check",
+        text: "usage: p3l check PROGRAM
 
 Says whether a program keeps the rules of the language, how many modules it has,
 and how many instances of them its module `main` comes to, with itself.
@@ -192,10 +205,11 @@ and how many instances of them its module `main` comes to, with itself.
   PROGRAM          the file of the program
 
 example: p3l check m.p3l
-";
-
-/// The page of `fmt`.
-const FMT: &str = "usage: p3l fmt PROGRAM
+",
+    },
+    Page {
+        topic: "fmt",
+        text: "usage: p3l fmt PROGRAM
 
 Writes the canonical text of a program to the standard output. Comments are
 dropped: don't write the text over a source whose comments you want to keep.
@@ -203,10 +217,11 @@ dropped: don't write the text over a source whose comments you want to keep.
   PROGRAM          the file of the program
 
 example: p3l fmt m.p3l
-";
-
-/// The page of `gen`.
-const GEN: &str = "usage: p3l gen N --processors P [--items I] [--schedule S] [--save PREFIX]
+",
+    },
+    Page {
+        topic: "gen",
+        text: "usage: p3l gen N --processors P [--items I] [--schedule S] [--save PREFIX]
 
 Generates a program, its costs and a stream of items by a number, runs the
 program on the items in memory, and writes one line on the run: its numbers, the
@@ -221,10 +236,11 @@ of all words that came out, which wraps at 64 bits.
                    PREFIX.txt
 
 example: p3l gen 7 --processors 16 --save seven
-";
-
-/// The page of `rewrite`.
-const REWRITE: &str = "usage: p3l rewrite PROGRAM --processors P [--costs FILE]
+",
+    },
+    Page {
+        topic: "rewrite",
+        text: "usage: p3l rewrite PROGRAM --processors P [--costs FILE]
 
 Writes a program that means the same and whose service time is no greater, in
 its canonical text, without comments. Where main is a pipe, its stages without
@@ -238,10 +254,11 @@ the program itself is written.
                    standard costs
 
 example: p3l rewrite m.p3l --processors 16 > faster.p3l
-";
-
-/// The page of `profile`.
-const PROFILE: &str = "usage: p3l profile PROGRAM
+",
+    },
+    Page {
+        topic: "profile",
+        text: "usage: p3l profile PROGRAM
 
 Computes what the program makes of the items of the standard input, and writes
 the costs of its modules as these items show them to the standard output: of
@@ -251,10 +268,11 @@ item. Nothing is written where an item comes to a trap, or a line is no item.
   PROGRAM          the file of the program
 
 example: p3l profile m.p3l < sample > m.toml
-";
-
-/// The page of `time`.
-const TIME: &str = "usage: p3l time PROGRAM --processors P [--costs FILE] [--capacity C]
+",
+    },
+    Page {
+        topic: "time",
+        text: "usage: p3l time PROGRAM --processors P [--costs FILE] [--capacity C]
                 [--picks FILE]
 
 Runs a program on the standard input in virtual time, and writes its items as
@@ -275,10 +293,11 @@ give the same line.
                    file:FILE
 
 example: p3l time m.p3l --processors 16 --costs m.toml <in.txt
-";
-
-/// The page of `scan`.
-const SCAN: &str = "usage: p3l scan PROGRAM --segments M [--schedule S] [--capacity C] [--stats]
+",
+    },
+    Page {
+        topic: "scan",
+        text: "usage: p3l scan PROGRAM --segments M [--schedule S] [--capacity C] [--stats]
 
 Reads items from the standard input, one a line, and writes for each the fold
 of every prefix of its list: where the program's module `main` is a reduce by
@@ -296,10 +315,11 @@ depend on how many segments there are; main's `workers` clause is not used.
   --stats          put a line on the run's numbers on the standard error
 
 example: p3l scan m.p3l --segments 4 < items
-";
-
-/// The page of `save`.
-const SAVE: &str = "usage: p3l save PROGRAM --processors P --schedule file:NAME --output FILE
+",
+    },
+    Page {
+        topic: "save",
+        text: "usage: p3l save PROGRAM --processors P --schedule file:NAME --output FILE
                 [--costs FILE] [--capacity C]
 
 Runs the picks of a file on the standard input, writes the results as run does,
@@ -321,10 +341,11 @@ file is written.
 
 example: p3l save m.p3l --processors 16 --schedule file:m.picks \\
          --output m.shot < items
-";
-
-/// The page of `resume`.
-const RESUME: &str = "usage: p3l resume SNAPSHOT [--schedule S] [--stats]
+",
+    },
+    Page {
+        topic: "resume",
+        text: "usage: p3l resume SNAPSHOT [--schedule S] [--stats]
 
 Continues from the snapshot that save wrote: reads further items from the
 standard input, one a line, and writes one line for each result that was still
@@ -338,84 +359,6 @@ refused, and so is one whose tokens can't be those of a run of its network.
   --stats          put a line on the run's numbers on the standard error
 
 example: p3l resume m.shot --schedule seed:7 < further
-";
-
-/// A page for each command, by its first word.
-pub(crate) const COMMANDS: &[Page] = &[
-    Page {
-        topic: "run",
-        text: RUN,
-    },
-    Page {
-        topic: "compile",
-        text: COMPILE,
-    },
-    Page {
-        topic: "exec",
-        text: EXEC,
-    },
-    Page {
-        topic: "migrate",
-        text: MIGRATE,
-    },
-    Page {
-        topic: "export",
-        text: EXPORT,
-    },
-    Page {
-        topic: "explain",
-        text: EXPLAIN,
-    },
-    Page {
-        topic: "advise",
-        text: ADVISE,
-    },
-    Page {
-        topic: "graph",
-        text: GRAPH,
-    },
-    Page {
-        topic: "verify-cert",
-        text: VERIFY_CERT,
-    },
-    Page {
-        topic: "check-trace",
-        text: CHECK_TRACE,
-    },
-    Page {
-        topic: "check",
-        text: CHECK,
-    },
-    Page {
-        topic: "fmt",
-        text: FMT,
-    },
-    Page {
-        topic: "gen",
-        text: GEN,
-    },
-    Page {
-        topic: "rewrite",
-        text: REWRITE,
-    },
-    Page {
-        topic: "profile",
-        text: PROFILE,
-    },
-    Page {
-        topic: "time",
-        text: TIME,
-    },
-    Page {
-        topic: "scan",
-        text: SCAN,
-    },
-    Page {
-        topic: "save",
-        text: SAVE,
-    },
-    Page {
-        topic: "resume",
-        text: RESUME,
+",
     },
 ];

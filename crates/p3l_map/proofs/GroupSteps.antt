@@ -9,6 +9,7 @@ use Rattle.p3l_map.specs.Map.{all_tagged, alike, all_alike}
 use Rattle.p3l_map.specs.Places.{groups, left}
 use Rattle.p3l_map.specs.laws.GroupLaw.{groups_append, left_append}
 use Rattle.p3l_template.specs.Finding.{bare}
+use Rattle.p3l_template.specs.laws.Lists.{none_left}
 use Rattle.p3l_map.specs.Groups.{last_of, begun, made, made_alike}
 use Rattle.p3l_template.specs.laws.BareLaw.{and-true, and-assoc}
 
@@ -138,10 +139,6 @@ pub record HasFirst (n : ℕ) (xs : List Token) (x : Token) (firsts : List Token
   pub more : (next : List Token) → next ≡ firsts → same_tags x.tags first.tags ≡ true → AreFirsts n (xs ++ x ∷ []) next
   pub differs : same_tags x.tags first.tags ≡ false → all_alike (begun n (xs ++ x ∷ [])) ≡ false
 
-no_pieces : (ts : List Token) → length ts ≡ 0 → ts ≡ []
-no_pieces [] h = refl
-no_pieces (t ∷ ts) h = absurd (omega (arith, h))
-
 pub no_firsts : (n : ℕ) (firsts : List Token) → firsts ≡ [] → AreFirsts n [] firsts
 unfolding groups left last_of all_alike
 no_firsts n firsts e = record { made = e; alike = refl }
@@ -154,7 +151,7 @@ module _ (n : ℕ) (pos : 0 < n) (xs : List Token) (x : Token) (firsts : List To
   pub first_more : (next : List Token) → length xs % n ≡ 0 → next ≡ firsts ++ bare x ∷ [] → AreFirsts n (xs ++ x ∷ []) next
   unfolding last_of all_alike alike all_tagged
   first_more next h e =
-      let none : left n [] xs ≡ [] = no_pieces (left n [] xs) (many ∙ h) in
+      let none : left n [] xs ≡ [] = none_left (left n [] xs) (many ∙ h) in
       let same : begun n xs ≡ groups n [] xs = ap (λ z. groups n [] xs ++ last_of z) none ∙ append-nil (groups n [] xs) in
       let more : begun n (xs ++ x ∷ []) ≡ groups n [] xs ++ (x ∷ []) ∷ [] =
       begun_more n xs x ∙ ap (λ z. groups n [] xs ++ (z ++ x ∷ []) ∷ []) none in

@@ -1,7 +1,7 @@
 -- The steps of what is found in a map.
 use Rattle.std.proofs.Common.{◌≡◌, ℕ, zero, suc, ◌+◌, ◌-◌, ◌%◌, ◌<◌, ◌≤◌, ◌&&◌, cond, not, inl, inr, Some, None, Bool, true, false, List, [], ◌∷◌, ◌++◌, map, drop, set, replicate, length, get_or, refl, sym, ap, ap₂, ◌∙◌, subst, arith, append_assoc, append-nil, length-append, mod-lt, ltb-true, eq-eqb}
 use Rattle.std.proofs.lemmas.Bool.{cases_Bool, cases_eq, and_from, cond-true, cond-false, false≢true}
-use Rattle.std.proofs.lemmas.List.{map-append, get_or-set_same, get_or-set_other}
+use Rattle.std.proofs.lemmas.List.{map-append, get_or-set_same, get_or-set_other, get_or_default}
 use Rattle.std.proofs.Math.Seq.{drop-cons}
 use Rattle.std.proofs.Math.Path.{fun_ext}
 use Rattle.p3l_firing.specs.At.{at}
@@ -13,6 +13,8 @@ use Rattle.p3l_map.specs.Places.{read_by, all_empty, in_by, total, groups, left}
 use Rattle.p3l_map.specs.laws.GroupLaw.{groups_append, left_append, one_group}
 use Rattle.p3l_map.specs.laws.MapView.{Kept, kept_to, kept_from, pieces_length}
 use Rattle.p3l_map.specs.laws.Turns.{total_at}
+use Rattle.p3l_map.specs.laws.SizeLaw.{read_count}
+use Rattle.p3l_template.specs.laws.Lists.{none_left}
 use Rattle.p3l_template.specs.laws.Rows.{at-same, at-other, front}
 use Rattle.p3l_template.specs.Finding.{bare, bares, if_orderly}
 use Rattle.p3l_map.specs.Groups.{left_at, count_of, by_turns, are_in_turn, last_of, begun, made, made_alike}
@@ -22,18 +24,13 @@ use Rattle.p3l_map.specs.laws.MapFound.{first-bare, groups-bare, left-bare, all_
 use Rattle.p3l_map.proofs.GroupSteps.{left_length, begun_more, alike_append, tagged_append}
 
 -- LINES
-or_same : {A : Type 0} (xs : List A) (j : ℕ) (a d : A) → j < length xs → get_or xs j a ≡ get_or xs j d
-or_same [] j a d m = absurd (omega arith)
-or_same (x ∷ xs) zero a d m = refl
-or_same (x ∷ xs) (suc j) a d m = or_same xs j a d (omega arith)
-
 -- the lines that were counted
 pub count_more : (lines : List (List Token)) (i count : ℕ) (l : List Token) → i < length lines → l ≡ get_or lines i l →
     count ≡ total (line_at lines) i → count + length l ≡ total (line_at lines) (i + 1)
 unfolding total
 count_more lines i count l b h e =
     let one : i + 1 ≡ suc i = omega arith in
-    let here : length l ≡ length (line_at lines i) = ap length (h ∙ or_same lines i l [] b) in
+    let here : length l ≡ length (line_at lines i) = ap length (h ∙ get_or_default lines i l [] b) in
     omega (arith, e, here) ∙ ap (total (line_at lines)) (sym one)
 
 -- TAKING
@@ -41,7 +38,7 @@ count_more lines i count l b h e =
 module _ (lines : List (List Token)) (taken : List ℕ) (w k : ℕ) (l other : List Token) (below : w < length lines)
     (same : length taken ≡ length lines) (is : l ≡ get_or lines w other) (next : k ≡ get_or taken w 0) where
   left_line : left_at lines taken w ≡ drop k l
-  left_line = ap₂ (λ n z. drop n z) (sym next) (sym (is ∙ or_same lines w other [] below))
+  left_line = ap₂ (λ n z. drop n z) (sym next) (sym (is ∙ get_or_default lines w other [] below))
 
   module _ (x none : Token) (there : k < length l) (it : x ≡ get_or l k none) where
     left_here : left_at lines taken w ≡ x ∷ drop (suc k) l
@@ -57,7 +54,7 @@ module _ (lines : List (List Token)) (taken : List ℕ) (w k : ℕ) (l other : L
                   let one : k + 1 ≡ suc k = omega arith in
                   ap (left_at lines now) d
                   ∙ ap₂ (λ n z. drop n z) (ap (λ ns. get_or ns w 0) e ∙ get_or-set_same taken w (k + 1) 0 (omega (arith, below, same)) ∙ one)
-                  (sym (is ∙ or_same lines w other [] below))
+                  (sym (is ∙ get_or_default lines w other [] below))
                   ∙ sym (ap rest_of left_here) ∙ sym (at-same (left_at lines taken) w _)
                   ∙ ap (at (left_at lines taken) w (rest_of (left_at lines taken w))) (sym d)
               | inr d ↦
@@ -168,11 +165,6 @@ module _ (number : ℕ) (lines : List (List Token)) (from : List Token) (i : ℕ
       )
 
 -- THE GROUPS OF A VIEW
-read_count : (f : ℕ → ℕ) (m c : ℕ) (L : ℕ → List Token) → length (read_by L f c m) ≡ m
-unfolding read_by
-read_count f zero c L = refl
-read_count f (suc m) c L = ap suc (read_count f m (suc c) (at L (f c) (rest_of (L (f c)))))
-
 pieces_tagged : (tags : List ℕ) (q : Pieces) (k m : ℕ) (x : Token) → all_tagged tags (pieces q k (suc m) x) ≡ same_tags x.tags tags
 unfolding all_tagged pieces
 pieces_tagged tags q k zero x = and-true (same_tags x.tags tags)
@@ -210,10 +202,6 @@ record IsEven (number : ℕ) (all walked : List Token) : Type 0 where
   pub agree : all_alike (groups number [] all) ≡ all_alike (begun number walked)
   pub come : map made (groups number [] all) ≡ map made (begun number walked)
 
-no_pieces : (ts : List Token) → length ts ≡ 0 → ts ≡ []
-no_pieces [] h = refl
-no_pieces (t ∷ ts) h = absurd (omega (arith, h))
-
 made_bare : (number lines : ℕ) (gs : List (List Token)) → map (joined (bare_pieces number lines)) gs ≡ map made gs
 unfolding joined
 made_bare number lines [] = refl
@@ -224,7 +212,7 @@ module _ (number lines : ℕ) (xs : List Token) where
   unfolding last_of
   even_none h =
       let same : xs ++ [] ≡ xs = append-nil xs in
-      let none : left number [] xs ≡ [] = no_pieces (left number [] xs) h in
+      let none : left number [] xs ≡ [] = none_left (left number [] xs) h in
       let e : groups number [] (xs ++ []) ≡ begun number (xs ++ []) =
       ap (groups number []) same ∙ sym (append-nil (groups number [] xs)) ∙ ap (λ z. groups number [] xs ++ last_of z) (sym none)
       ∙ ap (begun number) (sym same) in

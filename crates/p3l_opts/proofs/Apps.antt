@@ -1,36 +1,47 @@
 -- Each command is simple, so what `clap` says of it is exact.
-use Rattle.std.proofs.Common.{◌≡◌, ◌∙◌, List, [], ◌∷◌, true, ap, refl, inl, inr}
+use Rattle.std.proofs.Common.{◌≡◌, ◌∙◌, Bool, List, [], ◌∷◌, Some, bytes_eq, false, find, true, ap, refl, inl, inr}
+use Rattle.std.specs.List.{list_all}
 use Rattle.clap.specs.Words.{App, Text, Kinds, fault_of, matches_of, is_simple, is_simple_and_free, HasKind, kind_of}
 use Rattle.clap.specs.declared.error.Error.{Error}
 use Rattle.clap.specs.declared.error.kind.ErrorKind.TheVariants.{OutOfMemory}
 use Rattle.clap.proofs.OnLiterals.{clap_on_literals}
-use Rattle.p3l_opts.specs.declared.verb.Verb.{Verb}
-use Rattle.p3l_opts.specs.declared.verb.Verb.TheVariants as verb
-use Rattle.p3l_opts.specs.Verb.{app_for, faults, rows}
+use Rattle.p3l_opts.specs.App.{app_for, faults, rows}
+use Rattle.p3l_opts.specs.Table.{Entry, entries, entry_named}
 
-simple_and_free : (v : Verb) → is_simple_and_free (app_for v) ≡ true
-unfolding app_for clap_on_literals
-simple_and_free verb.Check = refl
-simple_and_free _ = refl
+-- what all elements are, one that is found is
+found_is : {A : Type 0} (test is : A → Bool) (xs : List A) (x : A) → list_all is xs ≡ true → find test xs ≡ Some x → is x ≡ true
+found_is test is [] x every found = absurd cc
+found_is {A} test is (y ∷ ys) x every found = by (test y) (is y) refl refl (found_is test is ys x)
+  where
+    by : (b c : Bool) → b ≡ test y → c ≡ is y → (list_all is ys ≡ true → find test ys ≡ Some x → is x ≡ true) → is x ≡ true
+    by true true h k rest = (let first : Some y ≡ Some x = rw (← h) at found in cc)
+    by false true h k rest = rest (rw (← k) at every) (rw (← h) at found)
+    by b false h k rest = absurd (let no : false ≡ true = rw (← k) at every in cc)
 
-simple : (v : Verb) → is_simple (app_for v) ≡ true
-unfolding app_for clap_on_literals
-simple verb.Check = refl
-simple _ = refl
+all_simple_and_free : list_all (λ entry. is_simple_and_free (app_for entry)) entries ≡ true
+unfolding clap_on_literals entries
+all_simple_and_free = refl
 
-pub as_simple_and_free : (v : Verb) (a : App) → a ≡ app_for v → is_simple_and_free a ≡ true
-as_simple_and_free v a e = ap is_simple_and_free e ∙ simple_and_free v
+all_simple : list_all (λ entry. is_simple (app_for entry)) entries ≡ true
+unfolding clap_on_literals entries
+all_simple = refl
 
-pub as_simple : (v : Verb) (a : App) → a ≡ app_for v → is_simple a ≡ true
-as_simple v a e = ap is_simple e ∙ simple v
+module _ (name : Text) (entry : Entry) (a : App) (named : entry_named name ≡ Some entry) (is : a ≡ app_for entry) where
+  pub as_simple_and_free : is_simple_and_free a ≡ true
+  unfolding entry_named
+  as_simple_and_free = ap is_simple_and_free is ∙ found_is (λ entry. bytes_eq entry.1 name) (λ entry. is_simple_and_free (app_for entry)) entries entry all_simple_and_free named
 
-pub as_faults : (v : Verb) (a : App) (words : List Text) → a ≡ app_for v → fault_of a words ≡ faults v words
+  pub as_simple : is_simple a ≡ true
+  unfolding entry_named
+  as_simple = ap is_simple is ∙ found_is (λ entry. bytes_eq entry.1 name) (λ entry. is_simple (app_for entry)) entries entry all_simple named
+
+pub as_faults : (entry : Entry) (a : App) (words : List Text) → a ≡ app_for entry → fault_of a words ≡ faults entry words
 unfolding faults
-as_faults v a words e = ap (λ (x : App). fault_of x words) e
+as_faults entry a words e = ap (λ (x : App). fault_of x words) e
 
-pub as_rows : (v : Verb) (a : App) (words : List Text) → a ≡ app_for v → matches_of a words ≡ rows v words
+pub as_rows : (entry : Entry) (a : App) (words : List Text) → a ≡ app_for entry → matches_of a words ≡ rows entry words
 unfolding rows
-as_rows v a words e = ap (λ (x : App). matches_of x words) e
+as_rows entry a words e = ap (λ (x : App). matches_of x words) e
 
 pub no_kind : (kinds : Kinds) (e : Error) → HasKind kinds e → kinds ≡ [] → kind_of e ≡ OutOfMemory
 no_kind [] e (inl m) none = m

@@ -1,3 +1,4 @@
 pub mod Numbers
 pub mod Apps
+pub mod Parsing
 pub mod OneCommand

@@ -1,5 +1,6 @@
+pub mod Word
 pub mod Table
-pub mod Verb
+pub mod App
 pub mod Command
 pub mod Wanted
 pub mod Laws

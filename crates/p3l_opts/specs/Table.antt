@@ -1,22 +1,23 @@
--- Commands of `clap` as tables of their words.
-use Rattle.std.specs.Prelude.{List, Some, fold, true}
+-- The command that a first word names.
+use Rattle.std.specs.Prelude.{List, Option, bytes_eq, find, map}
 use Rattle.std.specs.Borrow.{Bor}
-use Rattle.clap.specs.Words.{App, Rule, Text, new_rule, with_rule}
-use Rattle.clap.specs.declared.builder.action.ArgAction.TheVariants.{SetTrue}
-use Rattle.p3l_opts.specs.declared.table.Spelling.{Spelling}
-use Rattle.p3l_opts.specs.declared.table.Spelling.TheVariants.{Positional, Mandatory, Optional, Flag}
+use Rattle.clap.specs.Words.{Text}
+use Rattle.p3l_opts.specs.declared.table.TheConstants.{COMMANDS}
+use Rattle.p3l_opts.specs.declared.table.Verb.{Verb}
+use Rattle.p3l_opts.specs.declared.word.Word.{Word}
 
--- what is declared to `clap` of a word of this spelling
-abbrev pub rule_for : Text → Spelling → Rule
-rule_for name Positional = record (new_rule name) { required = true }
-rule_for name Mandatory = record (new_rule name) { long = Some name; required = true }
-rule_for name Optional = record (new_rule name) { long = Some name }
-rule_for name Flag = record (new_rule name) { long = Some name; action = Some SetTrue }
+-- a command: its action, its first word and the words that may come after it
+abbrev pub Entry : Type 0
+Entry = Verb × Text × List Word
 
--- the command with one word more
-abbrev pub with_word : App → Bor Text × Spelling → App
-with_word app word = with_rule app (rule_for word.0.now word.1)
+-- the same, of an entry in memory
+abbrev pub shown : Verb × Bor Text × Bor (List Word) → Entry
+shown entry = (entry.0, entry.1.now, entry.2.now)
 
--- the command with these words more
-abbrev pub app_with : App → List (Bor Text × Spelling) → App
-app_with app words = fold with_word app words
+-- all commands, as the table has them
+unfoldable pub entries : List Entry
+entries = map (λ entry. (entry.0, entry.1.now, entry.2.now)) COMMANDS
+
+-- the command whose first word this is
+unfoldable pub entry_named : Text → Option Entry
+entry_named word = find (λ entry. bytes_eq entry.1 word) entries

@@ -4,18 +4,21 @@ ghost use Rattle.p3l_base.specs.Memory.{Refused};
 ghost use Rattle.p3l_opts.specs.Wanted.{ClapWanted};
 ghost use Rattle.std.specs.Prelude.{◌⊎◌, OnErr};
 
+use crate::app::clap_command;
 use crate::command::OptsRefusal;
-use crate::matches::{MOST_ITEMS, refusal_of};
+use crate::matches::refusal_of;
+use crate::table::{Entry, entry_named};
 use crate::value::{count_of, number_in, schedule_of};
-use crate::verb::{Verb, clap_command, verb_of};
+use crate::word::{CAPACITY, ITEMS, PROCESSORS, SEGMENTS, Value, Word};
 use clap::ArgMatches;
 use p3l_base::NoMemory;
-use p3l_base::limits::{MOST_PROCESSORS, MOST_TOKENS, MOST_WORKERS};
 use std::alloc::Global;
 
 /// A form that a value must have.
 #[derive(Clone, Copy, Drop)]
 enum Form {
+    /// Any text.
+    Text,
     /// A number from 1 to this one.
     Count(u32),
     /// A number of 32 bits.
@@ -34,19 +37,19 @@ pub fn complaint_on(alloc: Global, words: &[&str]) -> Result<Option<String>, NoM
     let Some(first) = words.first() else {
         return Ok(None);
     };
-    match verb_of(first) {
-        Some(verb) => complaint_of(alloc, verb, words),
+    match entry_named(first) {
+        Some(listed) => complaint_of(alloc, listed, words),
         None => Ok(None),
     }
 }
 
-/// Says what is wrong with words of which the first names this verb.
-fn complaint_of(alloc: Global, verb: Verb, words: &[&str]) -> Result<Option<String>, NoMemory>
+/// Says what is wrong with words of which the first names this command.
+fn complaint_of(alloc: Global, listed: Entry, words: &[&str]) -> Result<Option<String>, NoMemory>
     ensures { OnErr result (Refused ⊎ ClapWanted) }
 {
-    let command = clap_command(alloc, verb)?;
+    let command = clap_command(alloc, listed)?;
     match command.try_get_matches_from(words) {
-        Ok(matches) => Ok(value_complaint(alloc, verb, &matches)?),
+        Ok(matches) => Ok(value_complaint(alloc, listed, &matches)?),
         Err(error) => match refusal_of(&error) {
             OptsRefusal::Usage => Ok(Some(format!(in alloc; "{error}")?)),
             OptsRefusal::NoMemory => Err(NoMemory),
@@ -54,30 +57,37 @@ fn complaint_of(alloc: Global, verb: Verb, words: &[&str]) -> Result<Option<Stri
     }
 }
 
-/// Says which value is the first that is out of its form.
+/// Says which value is out of its form: the first count, or else the first other value.
 fn value_complaint(
     alloc: Global,
-    verb: Verb,
+    listed: Entry,
     matches: &ArgMatches,
 ) -> Result<Option<String>, NoMemory>
     ensures { OnErr result Refused }
 {
-    let schedule = match verb {
-        Verb::Save => Form::Picks,
-        _ => Form::Schedule,
-    };
-    let forms = [
-        ("processors", Form::Count(MOST_PROCESSORS)),
-        ("segments", Form::Count(MOST_WORKERS)),
-        ("capacity", Form::Count(MOST_TOKENS)),
-        ("items", Form::Count(MOST_ITEMS)),
-        ("number", Form::Number),
-        ("schedule", schedule),
-    ];
-    for (id, form) in forms.iter() {
-        if let Some(text) = matches.get_str(id) {
-            if !form.takes(alloc, text)? {
-                return Ok(Some(form.complaint(alloc, id, text)?));
+    match complaint_among(alloc, listed.2, true, matches)? {
+        Some(complaint) => Ok(Some(complaint)),
+        None => complaint_among(alloc, listed.2, false, matches),
+    }
+}
+
+/// Says which count, or which other value, is the first that is out of its form.
+fn complaint_among(
+    alloc: Global,
+    words: &[Word],
+    counts: bool,
+    matches: &ArgMatches,
+) -> Result<Option<String>, NoMemory>
+    ensures { OnErr result Refused }
+{
+    for word in words {
+        let value = word.value();
+        let form = value.form();
+        if form.is_count() == counts {
+            if let Some(text) = matches.get_str(value.name()) {
+                if !form.takes(alloc, text)? {
+                    return Ok(Some(form.complaint(alloc, value.name(), text)?));
+                }
             }
         }
     }
@@ -95,12 +105,37 @@ fn spells_schedule(alloc: Global, text: &str) -> Result<bool, NoMemory>
     }
 }
 
+impl Value {
+    /// Returns the form of the value.
+    fn form(self) -> Form {
+        match self {
+            Value::Processors => Form::Count(PROCESSORS.most),
+            Value::Segments => Form::Count(SEGMENTS.most),
+            Value::Capacity => Form::Count(CAPACITY.most),
+            Value::Items => Form::Count(ITEMS.most),
+            Value::Number => Form::Number,
+            Value::Schedule => Form::Schedule,
+            Value::Recorded => Form::Picks,
+            _ => Form::Text,
+        }
+    }
+}
+
 impl Form {
+    /// Tells whether the values are counts.
+    fn is_count(self) -> bool {
+        match self {
+            Form::Count(_) => true,
+            _ => false,
+        }
+    }
+
     /// Tells whether a value has the form.
     fn takes(self, alloc: Global, text: &str) -> Result<bool, NoMemory>
         ensures { OnErr result Refused }
     {
         match self {
+            Form::Text => Ok(true),
             Form::Count(most) => Ok(count_of(text, most).is_some()),
             Form::Number => Ok(number_in(text).is_some()),
             Form::Schedule => spells_schedule(alloc, text),
@@ -117,10 +152,10 @@ impl Form {
                 format!(in alloc; "error: {id}: '{text}' is no number from 1 to {most}\n")
             }
             Form::Number => format!(in alloc; "error: {id}: '{text}' is no number of 32 bits\n"),
-            Form::Schedule => {
+            Form::Picks => format!(in alloc; "error: --{id}: '{text}' is not file:NAME\n"),
+            Form::Schedule | Form::Text => {
                 format!(in alloc; "error: --{id}: '{text}' is not rr, seed:N or file:NAME\n")
             }
-            Form::Picks => format!(in alloc; "error: --{id}: '{text}' is not file:NAME\n"),
         };
         Ok(complaint?)
     }

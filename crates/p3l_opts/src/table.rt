@@ -1,53 +1,225 @@
-// Commands of `clap`, each made from a table of its words.
+// The commands: a row for each, with its first word and the words that may come after it.
 
-ghost use Rattle.std.specs.Prelude.{◌≡◌, false};
-ghost use Rattle.p3l_base.specs.Memory.{IfGiven};
-ghost use Rattle.clap.specs.Words.{app_of, new_app, rule_of};
-ghost use Rattle.p3l_opts.specs.Table.{app_with, rule_for};
+ghost use Rattle.std.specs.Prelude.{◌≡◌, bytes_eq, find, map};
+ghost use Rattle.std.specs.Option.{option_map};
+ghost use Rattle.p3l_opts.specs.Table.{entry_named, shown};
 
-use clap::{Arg, ArgAction, Command};
-use p3l_base::NoMemory;
-use std::alloc::Global;
+use crate::word::Value::{
+    Capacity, Cert, Costs, Image, Items, Number, Output, Picks, Processes, Processors, Program,
+    Recorded, Save, Schedule, Segments, Snapshot, Stats, Trace,
+};
+use crate::word::Word;
+use crate::word::Word::{Flag, Mandatory, Optional, Positional};
 
-/// The spelling of a word of a command, and whether it has to be there.
-#[derive(Clone, Copy)]
-pub(crate) enum Spelling {
-    /// `VALUE`, which has to be there.
-    Positional,
-    /// `--name VALUE`, which has to be there.
-    Mandatory,
-    /// `--name VALUE`.
-    Optional,
-    /// `--name`.
-    Flag,
+/// The action of a command, named by its first word.
+#[derive(Clone, Copy, Drop)]
+pub enum Verb {
+    Check,
+    Fmt,
+    Explain,
+    Advise,
+    Compile,
+    Run,
+    Exec,
+    Migrate,
+    Export,
+    Graph,
+    VerifyCert,
+    CheckTrace,
+    Gen,
+    Rewrite,
+    Profile,
+    Time,
+    Scan,
+    Save,
+    Resume,
 }
 
-/// The argument of this name and spelling.
-fn arg_for<'a>(alloc: Global, name: &'a str, spelling: Spelling) -> Arg<'a>
-    ensures rule { rule_of result ≡ rule_for name.entry.now spelling }
-    ensures local { result.global ≡ false }
+/// A command: its action, its first word, and the words that may come after it.
+pub type Entry = (Verb, &'static str, &'static [Word]);
+
+/// All commands.
+pub const COMMANDS: [(Verb, &str, &[Word]); 19] = [
+    (Verb::Check, "check", &[Positional(Program)]),
+    (Verb::Fmt, "fmt", &[Positional(Program)]),
+    (
+        Verb::Explain,
+        "explain",
+        &[
+            Positional(Program),
+            Mandatory(Processors),
+            Optional(Costs),
+            Optional(Cert),
+        ],
+    ),
+    (
+        Verb::Advise,
+        "advise",
+        &[
+            Positional(Program),
+            Optional(Processors),
+            Optional(Costs),
+            Flag(Processes),
+        ],
+    ),
+    (
+        Verb::Compile,
+        "compile",
+        &[
+            Positional(Program),
+            Mandatory(Processors),
+            Mandatory(Output),
+            Optional(Costs),
+            Optional(Capacity),
+        ],
+    ),
+    (
+        Verb::Run,
+        "run",
+        &[
+            Positional(Program),
+            Mandatory(Processors),
+            Optional(Costs),
+            Optional(Schedule),
+            Optional(Capacity),
+            Optional(Trace),
+            Flag(Stats),
+        ],
+    ),
+    (
+        Verb::Exec,
+        "exec",
+        &[
+            Positional(Image),
+            Optional(Schedule),
+            Optional(Trace),
+            Flag(Stats),
+        ],
+    ),
+    (
+        Verb::Migrate,
+        "migrate",
+        &[Positional(Image), Mandatory(Output)],
+    ),
+    (
+        Verb::Export,
+        "export",
+        &[
+            Positional(Program),
+            Mandatory(Processors),
+            Mandatory(Output),
+            Optional(Costs),
+            Optional(Capacity),
+        ],
+    ),
+    (
+        Verb::Graph,
+        "graph",
+        &[
+            Positional(Program),
+            Mandatory(Processors),
+            Optional(Costs),
+            Optional(Capacity),
+        ],
+    ),
+    (
+        Verb::VerifyCert,
+        "verify-cert",
+        &[Positional(Program), Mandatory(Cert), Optional(Costs)],
+    ),
+    (
+        Verb::CheckTrace,
+        "check-trace",
+        &[
+            Positional(Program),
+            Mandatory(Processors),
+            Mandatory(Trace),
+            Optional(Costs),
+            Optional(Capacity),
+        ],
+    ),
+    (
+        Verb::Gen,
+        "gen",
+        &[
+            Positional(Number),
+            Mandatory(Processors),
+            Optional(Items),
+            Optional(Schedule),
+            Optional(Save),
+        ],
+    ),
+    (
+        Verb::Rewrite,
+        "rewrite",
+        &[Positional(Program), Mandatory(Processors), Optional(Costs)],
+    ),
+    (Verb::Profile, "profile", &[Positional(Program)]),
+    (
+        Verb::Time,
+        "time",
+        &[
+            Positional(Program),
+            Mandatory(Processors),
+            Optional(Costs),
+            Optional(Capacity),
+            Optional(Picks),
+        ],
+    ),
+    (
+        Verb::Scan,
+        "scan",
+        &[
+            Positional(Program),
+            Mandatory(Segments),
+            Optional(Schedule),
+            Optional(Capacity),
+            Flag(Stats),
+        ],
+    ),
+    (
+        Verb::Save,
+        "save",
+        &[
+            Positional(Program),
+            Mandatory(Processors),
+            Mandatory(Recorded),
+            Mandatory(Output),
+            Optional(Costs),
+            Optional(Capacity),
+        ],
+    ),
+    (
+        Verb::Resume,
+        "resume",
+        &[Positional(Snapshot), Optional(Schedule), Flag(Stats)],
+    ),
+];
+
+/// Borrows the first of these commands whose first word this is.
+fn entry_among<'a>(entries: &'a [Entry], word: &str) -> Option<&'a Entry>
+    ensures { option_map (λ entry. entry.now) result
+        ≡ find (λ entry. bytes_eq entry.1.now word.now) entries.entry.now }
 {
-    let arg = Arg::new(alloc, name);
-    match spelling {
-        Spelling::Positional => arg.required(true),
-        Spelling::Mandatory => arg.long(name).required(true),
-        Spelling::Optional => arg.long(name),
-        Spelling::Flag => arg.long(name).action(ArgAction::SetTrue),
+    entries
+        .iter()
+        .find(|entry| entry.1.as_bytes() == word.as_bytes())
+}
+
+/// Returns the first of these commands whose first word this is.
+fn entry_in(entries: &[Entry], word: &str) -> Option<Entry>
+    ensures { option_map shown result
+        ≡ find (λ entry. bytes_eq entry.1 word.now) (map shown entries.now) }
+{
+    match entry_among(entries, word) {
+        Some(entry) => Some(*entry),
+        None => None,
     }
 }
 
-/// The command with these words, in this order.
-pub(crate) fn command_with<'a>(
-    alloc: Global,
-    name: &'a str,
-    words: &[(&'a str, Spelling)],
-) -> Result<Command<'a>, NoMemory>
-    ensures { IfGiven result (λ c. app_of c ≡ app_with (new_app name.entry.now) words.now) }
+/// Returns the command whose first word this is.
+pub(crate) fn entry_named(word: &str) -> Option<Entry>
+    ensures { option_map shown result ≡ entry_named word.now }
 {
-    let mut command = Command::new(alloc, name);
-    'words: for word in words {
-        let (id, spelling) = *word;
-        command = command.arg(arg_for(alloc, id, spelling))?;
-    }
-    Ok(command)
+    entry_in(&COMMANDS, word)
 }

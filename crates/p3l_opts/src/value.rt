@@ -1,15 +1,19 @@
 // Values as words spell them.
 
-ghost use Rattle.std.specs.Prelude.{◌≡◌, ◌<◌, ◌≤◌, ◌^◌, ◌↔◌, ◌++◌, ℕ, List, slice_index, IsTrue, IfSome, IfNone, IfOk, IsErrOf};
+ghost use Rattle.std.specs.Prelude.{◌≡◌, ◌<◌, ◌≤◌, ◌^◌, ◌↔◌, ◌++◌, ℕ, List, slice_index, IsTrue, IfSome, IfNone};
 ghost use Rattle.std.specs.Fmt.{decimal};
-ghost use Rattle.p3l_base.specs.Memory.{Refused};
-ghost use Rattle.p3l_opts.specs.declared.command.Sched.{Sched};
-ghost use Rattle.p3l_opts.specs.Command.{SpellsSchedule};
+ghost use Rattle.p3l_opts.specs.Command.{Parses, SpellsSchedule};
 
 use crate::command::{OptsRefusal, Sched};
-use crate::verb::is_word;
 use p3l_base::Name;
 use std::alloc::Global;
+
+/// Tests that a word is this text.
+fn is_word(word: &str, text: &str) -> bool
+    ensures { IsTrue result ↔ (word.now ≡ text.now) }
+{
+    word == text
+}
 
 /// Tests that a word begins with one of the digits 1 to 9.
 fn begins_with_digit(word: &str) -> bool
@@ -81,10 +85,7 @@ fn after<'a>(word: &'a str, front: &str) -> Option<&'a str>
 
 /// The schedule that a word spells.
 pub(crate) fn schedule_of(alloc: Global, word: &str) -> Result<Sched, OptsRefusal>
-    ensures ok { IfOk result (SpellsSchedule word.now) }
-    ensures usage { IsErrOf result OptsRefusal.Usage → (schedule : Sched)
-        → SpellsSchedule word.now schedule → ⊥ }
-    ensures memory { IsErrOf result OptsRefusal.NoMemory → Refused }
+    ensures { Parses (SpellsSchedule word.now) result }
 {
     if word == "rr" {
         return Ok(Sched::RoundRobin);

@@ -190,25 +190,30 @@ fn flag(requested: bool) -> Value<'static> {
 fn values_of(command: &Command) -> (&'static str, [Value<'_>; 5]) {
     let no = Value::Nothing;
     match command {
-        Command::Check(program) => ("check", [text(program), no, no, no, no]),
-        Command::Fmt(program) => ("fmt", [text(program), no, no, no, no]),
-        Command::Explain(build, cert) => {
+        Command::Check { program } => ("check", [text(program), no, no, no, no]),
+        Command::Fmt { program } => ("fmt", [text(program), no, no, no, no]),
+        Command::Explain { build, cert } => {
             (
                 "explain",
                 [Value::Build(build), or_hyphen(cert), no, no, no],
             )
         }
-        Command::Advise(build, processes) => {
+        Command::Advise { build, processes } => {
             (
                 "advise",
                 [Value::Build(build), flag(*processes), no, no, no],
             )
         }
-        Command::Compile(build, output) => {
+        Command::Compile { build, output } => {
             ("compile", [Value::Build(build), text(output), no, no, no])
         }
-        Command::Run(build, sched, trace, stats) => {
-            let picks = Value::Picks(sched);
+        Command::Run {
+            build,
+            schedule,
+            trace,
+            stats,
+        } => {
+            let picks = Value::Picks(schedule);
             (
                 "run",
                 [
@@ -220,37 +225,52 @@ fn values_of(command: &Command) -> (&'static str, [Value<'_>; 5]) {
                 ],
             )
         }
-        Command::Exec(image, sched, trace, stats) => {
-            let picks = Value::Picks(sched);
+        Command::Exec {
+            image,
+            schedule,
+            trace,
+            stats,
+        } => {
+            let picks = Value::Picks(schedule);
             (
                 "exec",
                 [text(image), picks, or_hyphen(trace), flag(*stats), no],
             )
         }
-        Command::Migrate(image, output) => ("migrate", [text(image), text(output), no, no, no]),
-        Command::Export(exported, output) => {
+        Command::Migrate { image, output } => ("migrate", [text(image), text(output), no, no, no]),
+        Command::Export { exported, output } => {
             (
                 "export",
                 [Value::Exported(exported), text(output), no, no, no],
             )
         }
-        Command::Graph(build) => ("graph", [Value::Build(build), no, no, no, no]),
-        Command::VerifyCert(program, cert, costs) => {
+        Command::Graph { build } => ("graph", [Value::Build(build), no, no, no, no]),
+        Command::VerifyCert {
+            program,
+            cert,
+            costs,
+        } => {
             (
                 "verify-cert",
                 [text(program), text(cert), or_hyphen(costs), no, no],
             )
         }
-        Command::CheckTrace(build, trace) => {
+        Command::CheckTrace { build, trace } => {
             (
                 "check-trace",
                 [Value::Build(build), text(trace), no, no, no],
             )
         }
-        Command::Gen(number, processors, items, sched, save) => {
+        Command::Gen {
+            number,
+            processors,
+            items,
+            schedule,
+            save,
+        } => {
             let processors = Value::Number(*processors);
             let items = Value::Number(*items);
-            let picks = Value::Picks(sched);
+            let picks = Value::Picks(schedule);
             (
                 "gen",
                 [
@@ -262,18 +282,28 @@ fn values_of(command: &Command) -> (&'static str, [Value<'_>; 5]) {
                 ],
             )
         }
-        Command::Rewrite(program, processors, costs) => {
+        Command::Rewrite {
+            program,
+            processors,
+            costs,
+        } => {
             let processors = Value::Number(*processors);
             (
                 "rewrite",
                 [text(program), processors, or_hyphen(costs), no, no],
             )
         }
-        Command::Profile(program) => ("profile", [text(program), no, no, no, no]),
-        Command::Time(build, picks) => {
+        Command::Profile { program } => ("profile", [text(program), no, no, no, no]),
+        Command::Time { build, picks } => {
             ("time", [Value::Build(build), or_hyphen(picks), no, no, no])
         }
-        Command::Scan(program, segments, sched, capacity, stats) => {
+        Command::Scan {
+            program,
+            segments,
+            schedule,
+            capacity,
+            stats,
+        } => {
             let segments = Value::Number(*segments);
             let capacity = Value::Number(*capacity);
             (
@@ -281,22 +311,30 @@ fn values_of(command: &Command) -> (&'static str, [Value<'_>; 5]) {
                 [
                     text(program),
                     segments,
-                    Value::Picks(sched),
+                    Value::Picks(schedule),
                     capacity,
                     flag(*stats),
                 ],
             )
         }
-        Command::Save(build, picks, output) => {
+        Command::Save {
+            build,
+            picks,
+            output,
+        } => {
             (
                 "save",
                 [Value::Build(build), text(picks), text(output), no, no],
             )
         }
-        Command::Resume(snapshot, sched, stats) => {
+        Command::Resume {
+            snapshot,
+            schedule,
+            stats,
+        } => {
             (
                 "resume",
-                [text(snapshot), Value::Picks(sched), flag(*stats), no, no],
+                [text(snapshot), Value::Picks(schedule), flag(*stats), no, no],
             )
         }
     }

@@ -10,7 +10,7 @@ use Rattle.p3l_profile.specs.declared.text.Table.{Table}
 use Rattle.p3l_profile.specs.declared.text.Table.TheVariants.{Ticks, Turns}
 use Rattle.p3l_profile.specs.Greatest.{Greatest, if_own, none_noted, noted, noted_all, raised, took_in, work_in}
 use Rattle.p3l_profile.specs.Law.{HasTheGreatest}
-use Rattle.p3l_profile.specs.Notes.{Note, ran, turn}
+use Rattle.p3l_walk.specs.Notes.{Note, noted_by, ran, turn}
 use Rattle.p3l_profile.specs.Text.{entries, entry_if, entry_of, is_used, number_of, speaks_of, turns_table}
 use Rattle.p3l_base.specs.Limits.{most_cost}
 
@@ -39,7 +39,7 @@ max-assoc : (a b c : ℕ) → max (max a b) c ≡ max a (max b c)
 max-assoc a b c = omega arith
 
 work_at : (g : Greatest) (done : List Note) (home : ℕ) → home < length g.work → slice_index (noted_all g done).work home ≡ max (slice_index g.work home) (work_in done home)
-unfolding noted_all
+unfolding noted_by
 work_at g [] home inside = omega arith
 work_at g (ran other n ∷ done) home inside =
     work_at (noted g (ran other n)) done home (subst (λ k. home < k) (sym (long_raised g.work other n)) inside)
@@ -48,7 +48,7 @@ work_at g (ran other n ∷ done) home inside =
 work_at g (turn other n ∷ done) home inside = work_at (noted g (turn other n)) done home inside
 
 took_at : (g : Greatest) (done : List Note) (home : ℕ) → home < length g.took → 1 ≤ slice_index g.took home → slice_index (noted_all g done).took home ≡ max (slice_index g.took home) (took_in done home)
-unfolding noted_all
+unfolding noted_by
 took_at g [] home inside some = omega arith
 took_at g (ran other n ∷ done) home inside some = took_at (noted g (ran other n)) done home inside some
 took_at g (turn other n ∷ done) home inside some =

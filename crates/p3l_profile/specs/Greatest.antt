@@ -3,7 +3,7 @@
 use Rattle.std.specs.Prelude.{◌≡◌, ◌==◌, ℕ, List, [], ◌∷◌, length, max, replicate, slice_index, slice_set, if◌then◌else◌}
 use Rattle.p3l_skel.specs.declared.tree.Tree.{Tree}
 use Rattle.p3l_units.specs.Table.{HasPlaces}
-use Rattle.p3l_profile.specs.Notes.{Note, ran, turn}
+use Rattle.p3l_walk.specs.Notes.{Note, ran, turn, noted_by}
 
 -- the number of a module, if it is this one
 abbrev pub if_own : ℕ → ℕ → ℕ → ℕ
@@ -39,9 +39,8 @@ noted g (ran home steps) = record { work = raised g.work home steps; took = g.to
 noted g (turn home number) = record { work = g.work; took = raised g.took home number }
 
 -- after all of this was done
-unfoldable pub noted_all : Greatest → List Note → Greatest
-noted_all g [] = g
-noted_all g (note ∷ notes) = noted_all (noted g note) notes
+abbrev pub noted_all : Greatest → List Note → Greatest
+noted_all = noted_by noted
 
 -- there are numbers of each module of a tree
 pub record HasRoom (tree : Tree) (g : Greatest) : Type 0 where

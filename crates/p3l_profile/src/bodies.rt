@@ -46,8 +46,15 @@ impl<'t> Bodies<'t> {
         }
     }
 
+    /// The tree that the bodies are those of.
+    pub fn tree(&self) -> &Tree
+        ensures { result.now ≡ self.now.tree }
+    {
+        self.tree
+    }
+
     /// Runs the code of a `seq` node, and counts its instructions.
-    pub fn run(&self, alloc: Global, node: u32, words: &Words) -> Result<Counted, NoMemory>
+    pub fn run_counted(&self, alloc: Global, node: u32, words: &Words) -> Result<Counted, NoMemory>
         requires there { node < length self.now.tree.nodes }
         requires form { (node_at self.now.tree node).form ≡ forms.Seq }
         requires fits { length words.now ≡ (node_at self.now.tree node).ins }

@@ -1,6 +1,6 @@
 // The greatest numbers of each module so far.
 
-ghost use Rattle.std.specs.Prelude.{◌≡◌, ◌<◌, length, slice_index};
+ghost use Rattle.std.specs.Prelude.{◌≡◌, slice_index};
 ghost use Rattle.p3l_base.specs.Memory.{IfGiven};
 ghost use Rattle.p3l_profile.specs.Greatest.{none_noted, noted};
 ghost use Rattle.p3l_profile.specs.Notes.{ran, turn};
@@ -35,22 +35,27 @@ impl Highs {
         Ok(Highs { work, took })
     }
 
-    /// Notes a run of a module's code of `steps` instructions.
+    /// Notes a run of a module's code of `steps` instructions, where the module is there.
+    #[tactic(auto, using(crate::proofs::Room::run_past))]
     pub fn note_run(&mut self, home: u32, steps: u64)
-        requires { home < length self.old.work }
         ensures { self.new ≡ noted self.old (ran home steps) }
     {
         let place = home as usize;
-        self.work[place] = self.work[place].max(steps);
+        if place < self.work.len() {
+            self.work[place] = self.work[place].max(steps);
+        }
     }
 
-    /// Notes that a loop of a module began its turn of this number for an item.
+    /// Notes that a loop of a module began its turn of this number for an item, where the module
+    /// is there.
+    #[tactic(auto, using(crate::proofs::Room::turn_past))]
     pub fn note_turn(&mut self, home: u32, number: u32)
-        requires { home < length self.old.took }
         ensures { self.new ≡ noted self.old (turn home number) }
     {
         let place = home as usize;
-        self.took[place] = self.took[place].max(number);
+        if place < self.took.len() {
+            self.took[place] = self.took[place].max(number);
+        }
     }
 
     /// The greatest number of instructions of a module, and 0 for one that isn't there.

@@ -4,8 +4,8 @@
 
 pub mod bodies;
 pub mod highs;
-mod item;
 pub mod laws;
+mod leaves;
 pub mod profile;
 mod text;
 

@@ -13,11 +13,11 @@ ghost use Rattle.p3l_profile.specs.Text.{text_of};
 
 use crate::bodies::Bodies;
 use crate::highs::Highs;
-use crate::item::item_outcome;
 use crate::text::cost_text;
 use p3l_base::{List, NoMemory, Outcome, Words};
 use p3l_code::SafeCode;
 use p3l_skel::{ModuleKind, Tree};
+use p3l_walk::item_outcome;
 use std::alloc::Global;
 use std::marker::Model;
 

@@ -7,6 +7,7 @@ use Rattle.p3l_opts.specs.Command.{Spells}
 use Rattle.p3l_opts.specs.Laws.{SpellsOneAtMost}
 use Rattle.p3l_report.proofs.Statuses as statuses
 use Rattle.p3l_report.specs.declared.stats.Stats.{Stats}
+use Rattle.p3l_report.specs.declared.stats.Stats.TheVariants.{Scheduled}
 use Rattle.p3l_report.specs.declared.verdict.Finish.{Finish}
 use Rattle.p3l_report.specs.declared.verdict.Finish.TheVariants as finish
 use Rattle.p3l_report.specs.declared.verdict.Refusal.{Refusal}
@@ -24,7 +25,6 @@ use Rattle.p3l_program.specs.Saved.{HasOneFailed}
 use Rattle.p3l_program.specs.Stage.{AllPass, FilesCause, IsRefusedBy, Stage, readable}
 use Rattle.p3l_program.specs.Top.{Promises}
 use Rattle.p3l_run.specs.declared.end.RunStats.{RunStats}
-use Rattle.p3l_program.specs.Verdict.{run_stats}
 use Rattle.p3l_program.specs.Wants.{IsWanting, SavesLong, Wants}
 use Rattle.p3l_program.specs.World.{Change, HasNoFault, HasRisen, IsUntouched, World}
 use Rattle.p3l_program.proofs.FirstSteps.{first_writer, kept_first, left_first}
@@ -207,7 +207,7 @@ module _ (outside : Bool) (words : List Text) (w : World) (err : Change (List �
     reported : run.reported ≡ true → (said : List ℕ) → err.old ≡ Some said → (HasRisen err → ⊥) → Reports w run said err.new
     reported request said known calm =
         let e = run_ended in
-        let numbers : e.stats ≡ Some (run_stats e.ends.ran.stats) = e.ends.stats_are ∙ ap (λ b. shown b (run_stats e.ends.ran.stats)) request in
+        let numbers : e.stats ≡ Some (Scheduled e.ends.ran.stats) = e.ends.stats_are ∙ ap (λ b. shown b (Scheduled e.ends.ran.stats)) request in
         let line : err.new ≡ Some (said ++ lines_of (verdict.Ended e.finish e.stats)) = a.says said known calm ∙ ap (λ v. Some (said ++ lines_of v)) e.verdict_is in
         record {
           numbers = e.ends.ran.stats;

@@ -19,10 +19,12 @@ use Rattle.p3l_cert.specs.Checker.{CertHolds, IsAnswer}
 use Rattle.p3l_cert.specs.Text.{cert_format}
 use Rattle.p3l_cert.specs.Answers.{Answers, ReportsFirst, answer_of}
 use Rattle.p3l_cert.specs.laws.Text.{lawful_cert}
+use Rattle.p3l_report.specs.declared.evidence.Evidence.TheVariants as evidence
 use Rattle.p3l_report.specs.declared.verdict.Refusal.{Refusal}
 use Rattle.p3l_report.specs.declared.verdict.Refusal.TheVariants as refusal
 use Rattle.p3l_report.specs.declared.verdict.Verdict.{Verdict}
 use Rattle.p3l_report.specs.declared.verdict.Verdict.TheVariants as verdict
+use Rattle.p3l_report.specs.Verdict.{verdict_of}
 use Rattle.p3l_check.specs.Resolving.{ResolvedTree}
 use Rattle.p3l_program.specs.declared.plan.Accepted.{Accepted}
 use Rattle.p3l_program.specs.declared.file.FileRefusal.{FileRefusal}
@@ -31,7 +33,7 @@ use Rattle.p3l_program.specs.Plan.{AreSaid, ComesTo, HasCostText, IsPriced}
 use Rattle.p3l_program.specs.Certified.{IsCertOf, IsCertified, IsNoCert, IsNoText, IsRefuted, SpellsCert, cert_limit}
 use Rattle.p3l_program.specs.File.{HasText, text_limit}
 use Rattle.p3l_program.specs.Load.{IsNotLoaded, IsUnreadable, file_verdict}
-use Rattle.p3l_program.specs.LoadCert.{IsCertRefused, IsCertless, LoadsCert, LoadsVerified, cert_verdict}
+use Rattle.p3l_program.specs.LoadCert.{IsCertRefused, IsCertless, LoadsCert, LoadsVerified}
 use Rattle.p3l_program.specs.Stage.{AllPass, IsRefusedBy, Stage, cert_stages, cost_stages, program_stages, verify_stages}
 use Rattle.p3l_program.specs.Verify.{IsVerified, holds_line}
 use Rattle.p3l_program.specs.Wants.{Wants}
@@ -101,15 +103,15 @@ cert_unreadable files name tree costs file.NoMemory h = h
 
 -- a text that is refused
 pub cert_unheld : (files : Change Held) (name : List ℕ) (tree : Tree) (costs : Costs) (written : List ℕ) (r : CertRefusal) → HasText files.old cert_limit name written → IsCertRefused tree costs written r → IsCalm files →
-    IsCertless files name tree costs (cert_verdict r)
+    IsCertless files name tree costs (verdict_of (refusal.Evidence (evidence.Cert r)))
 cert_unheld files name tree costs written (refusals.RowWrong row kept found) held refuted calm =
-    inr (record { written = written; held = held; no_cert = record { refused = refusals.RowWrong row kept found; reported_so = refl; refuted = refuted }; calm = calm })
+    inr (record { written = written; held = held; no_cert = record { refuted = refuted; named = λ e. absurd cc }; calm = calm })
 cert_unheld files name tree costs written (refusals.RowMissing row node bound cap) held refuted calm =
-    inr (record { written = written; held = held; no_cert = record { refused = refusals.RowMissing row node bound cap; reported_so = refl; refuted = refuted }; calm = calm })
+    inr (record { written = written; held = held; no_cert = record { refuted = refuted; named = λ e. absurd cc }; calm = calm })
 cert_unheld files name tree costs written (refusals.ClaimWrong claim) held refuted calm =
-    inr (record { written = written; held = held; no_cert = record { refused = refusals.ClaimWrong claim; reported_so = refl; refuted = refuted }; calm = calm })
+    inr (record { written = written; held = held; no_cert = record { refuted = refuted; named = λ e. absurd cc }; calm = calm })
 cert_unheld files name tree costs written (refusals.BadText line) held refuted calm =
-    inr (record { written = written; held = held; no_cert = record { refused = refusals.BadText line; reported_so = refl; refuted = refuted }; calm = calm })
+    inr (record { written = written; held = held; no_cert = record { refuted = refuted; named = λ e. absurd cc }; calm = calm })
 cert_unheld files name tree costs written refusals.NoMemory held refuted calm = calm
 
 module _ (files : Change Held) (name : List ℕ) (costs : Option (List ℕ)) (cert_file : List ℕ) (r : ResolvedTree) (program : Accepted) (text : List ℕ) (has : HasText files.old text_limit name text) (comes : ComesTo text r program) (said : Option (List ℕ)) (says : HasCostText files.old costs said) (cs : Costs) (are : AreSaid program.tree said cs) where
@@ -130,8 +132,8 @@ module _ (files : Change Held) (name : List ℕ) (costs : Option (List ℕ)) (ce
 
   certless_refused : (refused : Refusal) → IsCertless files cert_file program.tree cs (verdict.Refused refused) → IsNotLoaded files (verify_stages name cert_file costs) (verdict.Refused refused)
   certless_refused refused (inl h) = (front_refused (cert_stages name costs cert_file) refused (inl h.0), h.1)
-  certless_refused (refusal.Evidence shown) (inr h) = (
-    front_refused (cert_stages name costs cert_file) (refusal.Evidence shown) (inr (
+  certless_refused (refusal.Evidence (evidence.Cert why)) (inr h) = (
+    front_refused (cert_stages name costs cert_file) (refusal.Evidence (evidence.Cert why)) (inr (
       (h.written, h.held),
       inl (record {
         text = text;
@@ -144,7 +146,7 @@ module _ (files : Change Held) (name : List ℕ) (costs : Option (List ℕ)) (ce
           r = r;
           cs = cs;
           priced = priced_here files name r program text has comes said cs are;
-          no_cert = subst (λ t. IsNoCert t cs h.written shown) comes.compiled.tree_is h.no_cert;
+          no_cert = subst (λ t. IsNoCert t cs h.written why) comes.compiled.tree_is h.no_cert;
           never = λ other others cert p. h.no_cert.refuted.never cert (cert_here h.written other others cert p);
         };
       }),
@@ -209,7 +211,7 @@ module _ (files : Change Held) (name : List ℕ) (costs : Option (List ℕ)) (ce
   verified text is = record { r = loads.r; cs = loads.cs; cert = cert; has = loads.has; optimal = loads.optimal; text_is = is }
 
 -- a certificate's refusal says that memory ran out only when a request was refused
-pub cert_wants : (outside : Bool) (tree : Tree) (costs : Costs) (text : List ℕ) (r : CertRefusal) → IsCertRefused tree costs text r → Wants outside (cert_verdict r)
+pub cert_wants : (outside : Bool) (tree : Tree) (costs : Costs) (text : List ℕ) (r : CertRefusal) → IsCertRefused tree costs text r → Wants outside (verdict_of (refusal.Evidence (evidence.Cert r)))
 cert_wants outside tree costs text (refusals.RowWrong row kept found) h = tt
 cert_wants outside tree costs text (refusals.RowMissing row node bound cap) h = tt
 cert_wants outside tree costs text (refusals.ClaimWrong claim) h = tt

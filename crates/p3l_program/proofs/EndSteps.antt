@@ -1,14 +1,13 @@
 -- How runs and texts end.
 use Rattle.std.proofs.Common.{◌≡◌, ◌≢◌, ℕ, List, [], ◌++◌, Option, Some, None, refl, sym, ap, ◌∙◌, append-nil}
 use Rattle.p3l_report.specs.Status as status
-use Rattle.p3l_report.specs.Verdict.{ending_status, finish_status}
+use Rattle.p3l_report.specs.Verdict.{end_status, ending_status}
 use Rattle.p3l_stream.specs.declared.items.Ending.{Ending}
 use Rattle.p3l_stream.specs.Answers.{IsAtEnd}
 use Rattle.p3l_stream.specs.Taken.{IsTaken}
 use Rattle.p3l_run.specs.declared.end.RunEnd.{RunEnd}
 use Rattle.p3l_run.specs.declared.end.RunEnd.TheVariants as ends
 use Rattle.p3l_run.specs.Write.{HasPut}
-use Rattle.p3l_program.specs.Verdict.{run_finish}
 use Rattle.p3l_program.proofs.SeenSteps.{at_end_left}
 
 -- only the end of a stream has its statuses
@@ -18,7 +17,7 @@ pub record IsStream (f : RunEnd) (n : ℕ) : Type 0 where
   pub status_is : ending_status e ≡ n
 
 -- statuses 0, 6, 8 and 14 of a run come with the ending of its stream
-pub stream_is : (f : RunEnd) (k : ℕ) → finish_status (run_finish f) ≡ k → (k ≢ status.stopped) → (k ≢ status.trap) → IsStream f k
+pub stream_is : (f : RunEnd) (k : ℕ) → end_status f ≡ k → (k ≢ status.stopped) → (k ≢ status.trap) → IsStream f k
 stream_is (ends.Stopped fired idle) k h stopped trap = absurd (stopped (sym h))
 stream_is (ends.Trapped item kind home) k h stopped trap = absurd (trap (sym h))
 stream_is (ends.Stream e) k h stopped trap = record { e = e; finish_is = refl; status_is = h }

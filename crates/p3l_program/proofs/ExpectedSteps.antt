@@ -42,7 +42,7 @@ expected_no_memory words w v (inr (inr (inr u))) =
     inl (record { command = u.command; spelled = u.spelled; expected = inl u.untouched; kept = unsaved_no_memory w.files (written_of u.command) (saved_first u.command) u.some u.kept; touched = inr ((lawful u.command).touches w u.some) })
 
 -- a verdict is expected of words that spell a command, by the shape of its work
-module _ (words : List Text) (c : Command) (spelled : Spells words c) where
+module _ {words : List Text} {c : Command} (spelled : Spells words c) where
   of_work : (w : World) (k : Work) (v : Verdict) → work_of c ≡ k → IsExpectedBy w (behavior k) v → KeepsFirst w.files (behavior k).written (behavior k).saved_first v →
       (w.files.new ≡ w.files.old) ⊎ (behavior k).Touches w → IsExpected words w v
   of_work w k v is expected kept touched = inl (record {
@@ -54,52 +54,52 @@ module _ (words : List Text) (c : Command) (spelled : Spells words c) where
   })
 
   -- one that runs a network, and one that checks a trace
-  module _ (files : Change Held) (input out : Change (List ℕ)) (v : Verdict) where
-    pub run_requested : (run : Running) → work_of c ≡ run_network run → IsRunExpected (world files input out) run.origin run.schedule run.trace run.reported v →
+  module _ {files : Change Held} {input out : Change (List ℕ)} {v : Verdict} where
+    pub run_requested : {run : Running} → work_of c ≡ run_network run → IsRunExpected (world files input out) run.origin run.schedule run.trace run.reported v →
         KeepsFiles files (option_to_list run.trace) v → (files.new ≡ files.old) ⊎ RunsOver (world files input out) run.origin run.schedule → IsExpected words (world files input out) v
-    run_requested run is expected kept over = of_work (world files input out) (run_network run) v is expected kept over
+    run_requested {run} is expected kept over = of_work (world files input out) (run_network run) v is expected kept over
 
-    pub check_requested : (build : Build) (name : List ℕ) → work_of c ≡ check_trace build name → IsCheckExpected (world files input out) build name v → files.new ≡ files.old →
+    pub check_requested : {build : Build} {name : List ℕ} → work_of c ≡ check_trace build name → IsCheckExpected (world files input out) build name v → files.new ≡ files.old →
         IsExpected words (world files input out) v
-    check_requested build name is expected same = of_work (world files input out) (check_trace build name) v is expected (kept_by files [] v same) (inl same)
+    check_requested {build} {name} is expected same = of_work (world files input out) (check_trace build name) v is expected (kept_by files [] v same) (inl same)
 
     -- and one that profiles a program on the input
-    pub profile_requested : (name : List ℕ) → work_of c ≡ profile_input name → IsProfileExpected (world files input out) name v → files.new ≡ files.old → IsExpected words (world files input out) v
-    profile_requested name is expected same = of_work (world files input out) (profile_input name) v is expected (kept_by files [] v same) (inl same)
+    pub profile_requested : {name : List ℕ} → work_of c ≡ profile_input name → IsProfileExpected (world files input out) name v → files.new ≡ files.old → IsExpected words (world files input out) v
+    profile_requested {name} is expected same = of_work (world files input out) (profile_input name) v is expected (kept_by files [] v same) (inl same)
 
     -- and one that runs a program in virtual time
-    pub time_requested : (build : Build) (name : Option (List ℕ)) → work_of c ≡ run_in_time build name → IsTimeExpected (world files input out) build name v →
+    pub time_requested : {build : Build} {name : Option (List ℕ)} → work_of c ≡ run_in_time build name → IsTimeExpected (world files input out) build name v →
         KeepsFiles files (option_to_list name) v → (files.new ≡ files.old) ⊎ TimesOver (world files input out) build → IsExpected words (world files input out) v
-    time_requested build name is expected kept over = of_work (world files input out) (run_in_time build name) v is expected kept over
+    time_requested {build} {name} is expected kept over = of_work (world files input out) (run_in_time build name) v is expected kept over
 
     -- and one that runs a program to a checkpoint
-    pub save_requested : (build : Build) (picks output : List ℕ) → work_of c ≡ save_state build picks output → IsSaveExpected (world files input out) build picks output v →
+    pub save_requested : {build : Build} {picks output : List ℕ} → work_of c ≡ save_state build picks output → IsSaveExpected (world files input out) build picks output v →
         KeepsFiles files (output ∷ []) v → (files.new ≡ files.old) ⊎ SavesOver (world files input out) build picks → IsExpected words (world files input out) v
-    save_requested build picks output is expected kept over = of_work (world files input out) (save_state build picks output) v is expected kept over
+    save_requested {build} {picks} {output} is expected kept over = of_work (world files input out) (save_state build picks output) v is expected kept over
 
   -- those that let the input alone
-  module _ (files : Change Held) (out : Change (List ℕ)) (rest : Option (List ℕ)) (faults : ℕ) (v : Verdict) where
+  module _ {files : Change Held} {out : Change (List ℕ)} {rest : Option (List ℕ)} {faults : ℕ} {v : Verdict} where
     abbrev pub quiet : Change (List ℕ)
     quiet = record { old = rest; new = rest; before = faults; now = faults; failed = None }
 
     still : IsStill quiet
     still = record { known = refl; calm = refl }
 
-    pub text_requested : (stages : List Stage) (IsText : Option Held → List ℕ → Type 0) → work_of c ≡ write_text stages IsText → IsTextExpected files out stages (IsText files.old) v →
+    pub text_requested : {stages : List Stage} {IsText : Option Held → List ℕ → Type 0} → work_of c ≡ write_text stages IsText → IsTextExpected files out stages (IsText files.old) v →
         files.new ≡ files.old → IsExpected words (world files quiet out) v
-    text_requested stages IsText is expected same = of_work (world files quiet out) (write_text stages IsText) v is (expected quiet still) (kept_by files [] v same) (inl same)
+    text_requested {stages} {IsText} is expected same = of_work (world files quiet out) (write_text stages IsText) v is (expected quiet still) (kept_by files [] v same) (inl same)
 
-    pub saving_requested : (stages : List Stage) (IsText : Option Held → List ℕ → Type 0) (name : List ℕ) (IsBytes : Option Held → List ℕ → Type 0) → work_of c ≡ save_file stages IsText name IsBytes →
+    pub saving_requested : {stages : List Stage} {IsText : Option Held → List ℕ → Type 0} {name : List ℕ} {IsBytes : Option Held → List ℕ → Type 0} → work_of c ≡ save_file stages IsText name IsBytes →
         IsSavingExpected files out stages (IsText files.old) name (IsBytes files.old) v → KeepsFiles files (name ∷ []) v → IsExpected words (world files quiet out) v
-    saving_requested stages IsText name IsBytes is expected kept = of_work (world files quiet out) (save_file stages IsText name IsBytes) v is (expected quiet still) kept (inr tt)
+    saving_requested {stages} {IsText} {name} {IsBytes} is expected kept = of_work (world files quiet out) (save_file stages IsText name IsBytes) v is (expected quiet still) kept (inr tt)
 
-    pub file_requested : (stages : List Stage) (name : List ℕ) (IsBytes : Option Held → List ℕ → Type 0) → work_of c ≡ save_file stages (λ held. IsNothing) name IsBytes → IsStill out →
+    pub file_requested : {stages : List Stage} {name : List ℕ} {IsBytes : Option Held → List ℕ → Type 0} → work_of c ≡ save_file stages (λ held. IsNothing) name IsBytes → IsStill out →
         IsFileExpected files stages name (IsBytes files.old) v → KeepsFiles files (name ∷ []) v → IsExpected words (world files quiet out) v
-    file_requested stages name IsBytes is silent expected kept = saving_requested stages (λ held. IsNothing) name IsBytes is (expected out silent) kept
+    file_requested is silent expected kept = saving_requested is (expected out silent) kept
 
-    pub gen_requested : (g : Gen) → work_of c ≡ run_generated g → IsGenExpected files out g v ⊎ IsGenUnsaved files out g v → IsExpected words (world files quiet out) v
-    gen_requested g is (inl h) = of_work (world files quiet out) (run_generated g) v is (h.expected quiet still) h.kept (inr tt)
-    gen_requested g is (inr h) = inr (inr (inr (record {
+    pub gen_requested : {g : Gen} → work_of c ≡ run_generated g → IsGenExpected files out g v ⊎ IsGenUnsaved files out g v → IsExpected words (world files quiet out) v
+    gen_requested {g} is (inl h) = of_work (world files quiet out) (run_generated g) v is (h.expected quiet still) h.kept (inr tt)
+    gen_requested is (inr h) = inr (inr (inr (record {
       verdict_is = h.verdict_is;
       command = c;
       spelled = spelled;

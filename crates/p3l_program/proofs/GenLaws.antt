@@ -7,7 +7,7 @@ use Rattle.p3l_report.proofs.Statuses as statuses
 use Rattle.p3l_report.specs.declared.stats.Stats.{Stats}
 use Rattle.p3l_report.specs.declared.verdict.Finish.{Finish}
 use Rattle.p3l_report.specs.Status as status
-use Rattle.p3l_report.specs.Verdict.{finish_status}
+use Rattle.p3l_report.specs.Verdict.{end_status, finish_status}
 use Rattle.p3l_sched.specs.declared.schedule.Schedule.{Schedule}
 use Rattle.p3l_sched.specs.declared.schedule.Schedule.TheVariants as schedule
 use Rattle.p3l_stream.specs.Items.{items_of}
@@ -17,14 +17,13 @@ use Rattle.p3l_run.specs.Network.{course_of, width_of}
 use Rattle.p3l_program.specs.Generated.{EndsGen, Gen, GensWhole, IsGenerated, IsPicked, gen_behavior, gen_capacity, saves_with}
 use Rattle.p3l_program.specs.Plan.{network_of}
 use Rattle.p3l_program.specs.Saved.{names_of}
-use Rattle.p3l_program.specs.Verdict.{run_finish}
 use Rattle.p3l_program.specs.World.{World}
 use Rattle.p3l_program.proofs.EndSteps.{put_known, stream_is}
 use Rattle.p3l_program.proofs.Lawful.{Lawful}
 use Rattle.p3l_program.proofs.SeenSteps.{stopped_goes, stream_end, text_ends}
 
 -- the items of a run of what is generated don't end with a fault of reading
-gen_read : (g : Gen) (f : RunEnd) (text : List ℕ) → IsGenerated g f text → finish_status (run_finish f) ≡ status.read → ⊥
+gen_read : (g : Gen) (f : RunEnd) (text : List ℕ) → IsGenerated g f text → end_status f ≡ status.read → ⊥
 gen_read g f text is h =
     let st = stream_is f status.read h (λ e. absurd (omega arith)) (λ e. absurd (omega arith)) in
     let n = network_of is.r is.counts gen_capacity in
@@ -39,7 +38,7 @@ never_recorded (sched.Seeded seed) s picks picked is = let z = sym picked ∙ is
 never_recorded (sched.File name) s picks picked is = picked
 
 -- so no run of what is generated is stopped
-gen_unstopped : (g : Gen) (f : RunEnd) (text : List ℕ) → IsGenerated g f text → finish_status (run_finish f) ≡ status.stopped → ⊥
+gen_unstopped : (g : Gen) (f : RunEnd) (text : List ℕ) → IsGenerated g f text → end_status f ≡ status.stopped → ⊥
 gen_unstopped g f text is h =
     let n = network_of is.r is.counts gen_capacity in
     let seen = items_of (width_of n) (stream_text g.number g.items) in

@@ -10,14 +10,14 @@ use Rattle.p3l_cost.specs.declared.refusal.CostRefusal.TheVariants as costs
 use Rattle.p3l_cost.specs.File.{IsRead, Says}
 use Rattle.p3l_model.specs.Service.{service}
 use Rattle.p3l_alloc.specs.Chosen.{IsShort}
-use Rattle.p3l_opts.specs.Command.{HasItems}
-use Rattle.p3l_report.specs.declared.cost_fault.CostFault.{CostFault}
-use Rattle.p3l_report.specs.declared.cost_fault.CostFault.TheVariants as fault
+use Rattle.p3l_opts.specs.declared.word.TheConstants.{ITEMS}
+use Rattle.p3l_opts.specs.Command.{HasCount}
 use Rattle.p3l_run.specs.declared.end.RunEnd.{RunEnd}
 use Rattle.p3l_run.specs.declared.end.RunEnd.TheVariants as ends
 use Rattle.p3l_report.specs.declared.verdict.Refusal.TheVariants as refusal
 use Rattle.p3l_report.specs.declared.verdict.Verdict.{Verdict}
 use Rattle.p3l_report.specs.declared.verdict.Verdict.TheVariants as verdict
+use Rattle.p3l_report.specs.Verdict.{verdict_of}
 use Rattle.p3l_run.specs.Network.{Network, course_of, goes_on, meaning_of, picks_of, stats_of, width_of}
 use Rattle.p3l_run.specs.declared.keeping.Keeping.TheVariants as keep
 use Rattle.p3l_run.specs.declared.run.Ran.{Ran}
@@ -31,9 +31,8 @@ use Rattle.p3l_stream.specs.declared.items.Items.{Items}
 use Rattle.p3l_check.specs.Resolving.{ResolvedTree}
 use Rattle.p3l_program.specs.declared.plan.Accepted.{Accepted}
 use Rattle.p3l_program.specs.declared.plan.Allotted.{Allotted}
-use Rattle.p3l_program.specs.Plan.{ComesTo, IsPriced, IsUnpriced, network_of, refusal_of}
+use Rattle.p3l_program.specs.Plan.{ComesTo, IsPriced, IsUnpriced, IsUnsaid, network_of}
 use Rattle.p3l_program.specs.Generated.{AreNotLoaded, EndsGen, Gen, IsGenExpected, IsGenRun, IsGenText, IsGenerated, IsLineOf, IsRanOn, IsRanUnder, LoadsTexts, comes_whole, gen_capacity, gen_stages, line_at, saves_of, summary_line, text_stages}
-use Rattle.p3l_program.specs.Load.{cost_verdict}
 use Rattle.p3l_program.specs.Saved.{AreSaved, HasSaves, HoldFirst, KeepsFirst, names_of}
 use Rattle.p3l_program.specs.Stage.{AllPass}
 use Rattle.p3l_program.specs.Text.{BeginsText}
@@ -45,25 +44,25 @@ use Rattle.p3l_program.proofs.TextSteps.{not_loaded}
 
 -- a text of costs that is refused, and processors that are too few
 module _ (text said : List ℕ) (processors : ℕ) (r : ResolvedTree) (program : Accepted) (comes : ComesTo text r program) where
-  unpriced : (f : CostFault) → IsRead program.tree said (Err (refusal_of f)) → IsUnpriced text said f
-  unpriced f read = record {
+  unpriced : (why : CostRefusal) → IsUnsaid program.tree said why → IsUnpriced text said why
+  unpriced why none = record {
     r = r;
     accepted = comes.accepted;
     refused = here;
-    never = λ other cs p. said_once r.tree said cs f (subst (λ t. Says t.tree said (Ok cs)) (comes.only other p.accepted) p.costs) here;
+    never = λ other cs p. said_once r.tree said cs why (subst (λ t. Says t.tree said (Ok cs)) (comes.only other p.accepted) p.costs) here;
   }
     where
-      here : IsRead r.tree said (Err (refusal_of f))
-      here = subst (λ t. IsRead t said (Err (refusal_of f))) comes.compiled.tree_is read
+      here : IsUnsaid r.tree said why
+      here = subst (λ t. IsUnsaid t said why) comes.compiled.tree_is none
 
-  not_priced : (f : CostFault) → IsRead program.tree said (Err (refusal_of f)) → AreNotLoaded text said processors (verdict.Refused (refusal.Costs f))
-  not_priced f read = λ files calm. (inr ((r, comes.accepted), inl (unpriced f read)), calm)
+  not_priced : (why : CostRefusal) → IsRead program.tree said (Err why) → (why ≡ costs.NoMemory → ⊥) → AreNotLoaded text said processors (verdict.Refused (refusal.Costs why))
+  not_priced why read named = λ files calm. (inr ((r, comes.accepted), inl (unpriced why (record { read = read; named = named }))), calm)
 
-  pub costs_refused : (e : CostRefusal) → IsRead program.tree said (Err e) → AreNotLoaded text said processors (cost_verdict e)
-  costs_refused costs.NotToml read = not_priced fault.NotToml read
-  costs_refused (costs.BadKey key) read = not_priced (fault.BadKey key) read
-  costs_refused (costs.BadValue key) read = not_priced (fault.BadValue key) read
-  costs_refused (costs.Missing name) read = not_priced (fault.Missing name) read
+  pub costs_refused : (why : CostRefusal) → IsRead program.tree said (Err why) → AreNotLoaded text said processors (verdict_of (refusal.Costs why))
+  costs_refused costs.NotToml read = not_priced costs.NotToml read (λ e. absurd cc)
+  costs_refused (costs.BadKey key) read = not_priced (costs.BadKey key) read (λ e. absurd cc)
+  costs_refused (costs.BadValue key) read = not_priced (costs.BadValue key) read (λ e. absurd cc)
+  costs_refused (costs.Missing name) read = not_priced (costs.Missing name) read (λ e. absurd cc)
   costs_refused costs.NoMemory read = λ files calm. calm
 
   module _ (cs : Costs) (says : Says program.tree said (Ok cs)) where
@@ -101,8 +100,8 @@ module _ (text said : List ℕ) (processors : ℕ) (loaded : Allotted) (loads : 
       ((loads.r, a.comes.accepted), ((loads.r, loaded.costs, a.allotted.priced), ((loads.r, loaded.costs, loaded.choice.counts.list, a.allotted), tt)))
 
 -- there are few items
-pub items_few : (text : Option (List ℕ)) (items : ℕ) → HasItems text items → items ≤ 100000
-items_few None items h = omega arith
+pub items_few : (text : Option (List ℕ)) (items : ℕ) → HasCount ITEMS text items → items ≤ 100000
+items_few None items h = (let same : 1000 ≡ items = cc in omega (arith, same))
 items_few (Some text) items h = h.most_is
 
 -- only the end of a stream is whole

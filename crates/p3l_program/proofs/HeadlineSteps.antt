@@ -47,7 +47,7 @@ use Rattle.p3l_opts.specs.declared.command.Sched.{Sched}
 use Rattle.p3l_opts.specs.Command as opts
 use Rattle.p3l_opts.specs.Laws.{SpellsOneAtMost}
 use Rattle.p3l_report.specs.Status as status
-use Rattle.p3l_report.specs.Verdict.{ending_status, finish_status}
+use Rattle.p3l_report.specs.Verdict.{end_status, ending_status, finish_status}
 use Rattle.p3l_report.proofs.Statuses as statuses
 use Rattle.p3l_program.specs.Answer.{BeginsWork}
 use Rattle.p3l_program.specs.Command.{Begins, Ends, work_of}
@@ -57,7 +57,6 @@ use Rattle.p3l_program.specs.Origin.{built}
 use Rattle.p3l_program.specs.Plan.{IsAccepted, network_of}
 use Rattle.p3l_program.specs.Run.{BeginsRun, EndsRun, keeping_for}
 use Rattle.p3l_program.specs.Top.{Promises}
-use Rattle.p3l_program.specs.Verdict.{run_finish}
 use Rattle.p3l_program.specs.World.{Change, IsUntouched, World}
 use Rattle.p3l_program.proofs.EndSteps.{put_known, stream_is}
 use Rattle.p3l_program.proofs.RunLaws.{whole_of}
@@ -229,12 +228,12 @@ module _ (n : Network) (c : Course) (close : Ending) (f : RunEnd) (is : f ≡ fi
       by false (Some t) h = absurd cc
 
   -- and one that ended by a trap did
-  some_trap : finish_status (run_finish f) ≡ status.trap → (t : Trap) × (trap_of c.state.emitted ≡ Some t)
-  some_trap h = by (goes_on n c) (trap_of c.state.emitted) (sym (ap (λ k. finish_status (run_finish k)) is) ∙ h)
+  some_trap : end_status f ≡ status.trap → (t : Trap) × (trap_of c.state.emitted ≡ Some t)
+  some_trap h = by (goes_on n c) (trap_of c.state.emitted) (sym (ap (λ k. end_status k) is) ∙ h)
     where
-      by : (b : Bool) (trap : Option Trap) → finish_status (run_finish (cond b (ends.Stopped c.fired c.idle) (end_of n.named trap (item_number n.start (length c.state.emitted)) close))) ≡ status.trap → (t : Trap) × (trap ≡ Some t)
+      by : (b : Bool) (trap : Option Trap) → end_status (cond b (ends.Stopped c.fired c.idle) (end_of n.named trap (item_number n.start (length c.state.emitted)) close)) ≡ status.trap → (t : Trap) × (trap ≡ Some t)
       by true trap h = absurd (omega arith)
-      by false None h = absurd (let t = statuses.trap_is (run_finish (ends.Stream close)) h in let z = t.1.1.1 in cc)
+      by false None h = absurd (let t = statuses.trap_is (ends.Stream close) h in let z = t.1.1.1 in cc)
       by false (Some t) h = (t, refl)
 
 -- WHAT WAS WRITTEN
@@ -276,7 +275,7 @@ module _ (r : ResolvedTree) (counts : List ℕ) (capacity : ℕ) (bytes taken : 
     is_all : (e : Ending) → end.finish ≡ ends.Stream e → f.items ≡ (input_of r bytes).items → so_far.later ++ after.0 ≡ []
     is_all e stream same = both_nothing so_far.later after.0 (all_mean e stream) (nothing_more f.items after.0 (sym after.1 ∙ sym same))
 
-    finished : (k : ℕ) → finish_status (run_finish end.finish) ≡ k → HasWritten r bytes taken new k
+    finished : (k : ℕ) → end_status end.finish ≡ k → HasWritten r bytes taken new k
     finished k h = record {
       written = text_of f.outcomes;
       new_is = put_known out new taken (text_of f.outcomes) known f.put;

@@ -17,18 +17,18 @@ use Rattle.p3l_load.specs.declared.loaded.LoadRefusal.{LoadRefusal}
 use Rattle.p3l_load.specs.declared.loaded.LoadRefusal.TheVariants as load
 use Rattle.p3l_load.specs.Codes.{IsFirstUnsafe}
 use Rattle.p3l_load.specs.Load.{IsRunnable, Refuses, RefusesMigration, loaded_of, migrated_of}
-use Rattle.p3l_report.specs.declared.evidence.Evidence.{Evidence}
 use Rattle.p3l_report.specs.declared.evidence.Evidence.TheVariants as evidence
 use Rattle.p3l_report.specs.declared.verdict.Refusal.TheVariants as refusal
 use Rattle.p3l_report.specs.declared.verdict.Verdict.{Verdict}
 use Rattle.p3l_report.specs.declared.verdict.Verdict.TheVariants as verdict
+use Rattle.p3l_report.specs.Verdict.{verdict_of}
 use Rattle.p3l_run.specs.Network.{Network}
 use Rattle.p3l_program.specs.File.{HasText}
-use Rattle.p3l_program.specs.Image.{IsBroken, IsBrokenImage, IsImage, IsUnfit, image_limit}
+use Rattle.p3l_program.specs.Image.{IsBrokenImage, IsImage, image_limit}
 use Rattle.p3l_program.specs.Load.{IsNotLoaded, LoadsNetwork}
 use Rattle.p3l_program.specs.Migrate.{Migrates}
 use Rattle.p3l_program.specs.Origin.{imaged}
-use Rattle.p3l_program.specs.LoadImage.{IsReadyImage, IsUndecoded, IsUnloadable, LoadsBytes, LoadsImage, image_verdict, load_verdict}
+use Rattle.p3l_program.specs.LoadImage.{IsReadyImage, IsUndecoded, IsUnloadable, LoadsBytes, LoadsImage}
 use Rattle.p3l_program.specs.Plan.{IsImaged, network_in}
 use Rattle.p3l_program.specs.Stage.{AllPass, Stage, decoded, image_stages, migrate_stages, readable}
 use Rattle.p3l_program.specs.World.{Change, IsCalm}
@@ -43,7 +43,8 @@ first_unsafe : (codes : List Code) (number : ℕ) → IsFirstUnsafe codes number
 first_unsafe codes number first safe = unsafe_at codes number first.unsafe (recursion_from_All IsSafe codes safe)
 
 -- bytes that are refused spell no image
-pub undecoded : (bytes : List ℕ) (r : ImageRefusal) → ((i : Image) → IsImage i bytes → Answers bytes (Err r) (Ok i)) → Answers bytes (Err r) (image_in bytes) → IsUndecoded bytes (image_verdict r)
+pub undecoded : (bytes : List ℕ) (r : ImageRefusal) → ((i : Image) → IsImage i bytes → Answers bytes (Err r) (Ok i)) → Answers bytes (Err r) (image_in bytes) →
+    IsUndecoded bytes (verdict_of (refusal.Evidence (evidence.Image r)))
 undecoded bytes image.BadMagic only exact = record { misspelled = sym exact; never = λ i is. let z = only i is in absurd cc }
 undecoded bytes (image.Version version) only exact = record { misspelled = sym exact; never = λ i is. let z = only i is in absurd cc }
 undecoded bytes (image.Short place) only exact = record { misspelled = sym exact; never = λ i is. let z = only i is in absurd cc }
@@ -53,31 +54,31 @@ undecoded bytes image.NoMemory only exact = exact
 
 -- so they load none
 pub unloadable : (bytes : List ℕ) (v : Verdict) → IsUndecoded bytes v → IsUnloadable bytes v
-unloadable bytes (verdict.Refused (refusal.Evidence e)) h = inl h
+unloadable bytes (verdict.Refused (refusal.Evidence (evidence.Image why))) h = h
 unloadable bytes verdict.NoMemory h = h
 unloadable bytes v h = absurd h
 
 module _ (bytes : List ℕ) (i : Image) (is : IsImage i bytes) (only : (other : Image) → IsImage other bytes → other ≡ i) where
-  broken : (e : Evidence) → IsBroken e i → (IsRunnable i → ⊥) → IsBrokenImage e bytes
-  broken e why never = record { i = i; is = is; broken = why; never = λ other runs. never (subst (λ o. IsRunnable o) (only other runs.is) runs.runs) }
+  broken : (why : LoadRefusal) → Refuses i why → (why ≡ load.NoMemory → ⊥) → (IsRunnable i → ⊥) → IsBrokenImage why bytes
+  broken why refuses named never = record { i = i; is = is; broken = refuses; named = named; never = λ other runs. never (subst (λ o. IsRunnable o) (only other runs.is) runs.runs) }
 
   -- an image that is refused can't be run
-  pub unrunnable : (r : LoadRefusal) → Refuses i r → IsUnloadable bytes (load_verdict r)
-  unrunnable load.TreeWrong h = inr (broken evidence.TreeWrong h (λ runs. h runs.whole))
-  unrunnable (load.CodeUnsafe number) h = inr (broken (evidence.CodeUnsafe number) h (λ runs. first_unsafe i.codes number h.1 runs.safe))
-  unrunnable load.NotLinked h = inr (broken evidence.NotLinked h (λ runs. h.2 runs.linked))
+  pub unrunnable : (r : LoadRefusal) → Refuses i r → IsUnloadable bytes (verdict_of (refusal.Evidence (evidence.Load r)))
+  unrunnable load.TreeWrong h = broken load.TreeWrong h (λ e. absurd cc) (λ runs. h runs.whole)
+  unrunnable (load.CodeUnsafe number) h = broken (load.CodeUnsafe number) h (λ e. absurd cc) (λ runs. first_unsafe i.codes number h.1 runs.safe)
+  unrunnable load.NotLinked h = broken load.NotLinked h (λ e. absurd cc) (λ runs. h.2 runs.linked)
   unrunnable load.NoMemory h = h
 
 module _ (files : Change Held) (name bytes : List ℕ) (has : HasText files.old image_limit name bytes) (calm : IsCalm files) where
   -- bytes that are no image stop the stages of an image, whatever stages come after
   pub not_decoded : (more : List Stage) (v : Verdict) → IsUndecoded bytes v → IsNotLoaded files (readable image_limit name ∷ (decoded name ∷ more)) v
-  not_decoded more (verdict.Refused (refusal.Evidence e)) h = (inr ((bytes, has), inl (record { bytes = bytes; has = has; are = h })), calm)
+  not_decoded more (verdict.Refused (refusal.Evidence (evidence.Image why))) h = (inr ((bytes, has), inl (record { bytes = bytes; has = has; are = h })), calm)
   not_decoded more verdict.NoMemory h = calm
   not_decoded more v h = absurd h
 
   module _ (i : Image) (is : IsImage i bytes) (only : (other : Image) → IsImage other bytes → other ≡ i) where
-    unfit : (e : Evidence) → IsUnfit e i → (IsRunnable (migrated_of i) → ⊥) → IsNotLoaded files (migrate_stages name) (verdict.Refused (refusal.Evidence e))
-    unfit e why never = (
+    unfit : (why : LoadRefusal) → RefusesMigration i why → (why ≡ load.NoMemory → ⊥) → (IsRunnable (migrated_of i) → ⊥) → IsNotLoaded files (migrate_stages name) (verdict.Refused (refusal.Evidence (evidence.Load why)))
+    unfit why refuses named never = (
       inr (
         (bytes, has),
         inr (
@@ -85,7 +86,7 @@ module _ (files : Change Held) (name bytes : List ℕ) (has : HasText files.old 
           inl (record {
             bytes = bytes;
             has = has;
-            are = record { i = i; is = is; unfit = why; never = λ other runs. never (subst (λ o. IsRunnable (migrated_of o)) (only other runs.is) runs.runs) };
+            are = record { i = i; is = is; unfit = refuses; named = named; never = λ other runs. never (subst (λ o. IsRunnable (migrated_of o)) (only other runs.is) runs.runs) };
           }),
         ),
       ),
@@ -93,10 +94,10 @@ module _ (files : Change Held) (name bytes : List ℕ) (has : HasText files.old 
     )
 
     -- an image that is refused can't be migrated
-    pub not_migrated : (r : LoadRefusal) → RefusesMigration i r → IsNotLoaded files (migrate_stages name) (load_verdict r)
+    pub not_migrated : (r : LoadRefusal) → RefusesMigration i r → IsNotLoaded files (migrate_stages name) (verdict_of (refusal.Evidence (evidence.Load r)))
     not_migrated load.TreeWrong h =
-        unfit evidence.TreeWrong h (λ runs. h (record { lawful = runs.whole.lawful; counted = runs.whole.counted; few = runs.whole.few; coded = runs.whole.coded }))
-    not_migrated (load.CodeUnsafe number) h = unfit (evidence.CodeUnsafe number) h (λ runs. first_unsafe i.codes number h.1 runs.safe)
+        unfit load.TreeWrong h (λ e. absurd cc) (λ runs. h (record { lawful = runs.whole.lawful; counted = runs.whole.counted; few = runs.whole.few; coded = runs.whole.coded }))
+    not_migrated (load.CodeUnsafe number) h = unfit (load.CodeUnsafe number) h (λ e. absurd cc) (λ runs. first_unsafe i.codes number h.1 runs.safe)
     not_migrated load.NotLinked h = absurd h
     not_migrated load.NoMemory h = calm
 

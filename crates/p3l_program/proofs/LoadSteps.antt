@@ -20,6 +20,7 @@ use Rattle.p3l_opts.specs.declared.command.Build.{Build}
 use Rattle.p3l_report.specs.declared.verdict.Refusal.TheVariants as refusal
 use Rattle.p3l_report.specs.declared.verdict.Verdict.{Verdict}
 use Rattle.p3l_report.specs.declared.verdict.Verdict.TheVariants as verdict
+use Rattle.p3l_report.specs.Verdict.{verdict_of}
 use Rattle.p3l_check.specs.Resolving.{ResolvedTree}
 use Rattle.p3l_program.specs.declared.plan.Accepted.{Accepted}
 use Rattle.p3l_program.specs.declared.plan.Allotted.{Allotted}
@@ -29,7 +30,7 @@ use Rattle.p3l_program.specs.Advise.{IsAdvised}
 use Rattle.p3l_program.specs.Certificate.{IsCertificate}
 use Rattle.p3l_program.specs.Explain.{IsExplained}
 use Rattle.p3l_program.specs.File.{HasText, text_limit}
-use Rattle.p3l_program.specs.Load.{IsCostless, IsLoaded, IsNotLoaded, cost_verdict}
+use Rattle.p3l_program.specs.Load.{IsCostless, IsLoaded, IsNotLoaded, IsUnchosen}
 use Rattle.p3l_program.specs.Source.{ComesToTree}
 use Rattle.p3l_program.specs.Stage.{AllPass, Stage, build_stages, cost_stages, program_stages}
 use Rattle.p3l_program.specs.World.{Change, IsCalm}
@@ -55,11 +56,11 @@ refused_text files name text fault pos has refused calm = (inr ((text, has), inl
 
 -- a text of costs that is refused
 pub unsaid : (files : Change Held) (name : List ℕ) (tree : Tree) (said : List ℕ) (r : CostRefusal) → HasText files.old text_limit name said → IsRead tree said (Err r) → IsCalm files →
-    IsCostless files (Some name) tree (cost_verdict r)
-unsaid files name tree said costs.NotToml has read calm = inr (record { said = said; has = has; no_costs = read; calm = calm })
-unsaid files name tree said (costs.BadKey key) has read calm = inr (record { said = said; has = has; no_costs = read; calm = calm })
-unsaid files name tree said (costs.BadValue key) has read calm = inr (record { said = said; has = has; no_costs = read; calm = calm })
-unsaid files name tree said (costs.Missing key) has read calm = inr (record { said = said; has = has; no_costs = read; calm = calm })
+    IsCostless files (Some name) tree (verdict_of (refusal.Costs r))
+unsaid files name tree said costs.NotToml has read calm = inr (record { said = said; has = has; no_costs = record { read = read; named = λ e. absurd cc }; calm = calm })
+unsaid files name tree said (costs.BadKey key) has read calm = inr (record { said = said; has = has; no_costs = record { read = read; named = λ e. absurd cc }; calm = calm })
+unsaid files name tree said (costs.BadValue key) has read calm = inr (record { said = said; has = has; no_costs = record { read = read; named = λ e. absurd cc }; calm = calm })
+unsaid files name tree said (costs.Missing key) has read calm = inr (record { said = said; has = has; no_costs = record { read = read; named = λ e. absurd cc }; calm = calm })
 unsaid files name tree said costs.NoMemory has read calm = calm
 
 -- the tree of an accepted program
@@ -82,9 +83,9 @@ module _ (files : Change Held) (name : List ℕ) (r : ResolvedTree) (program : A
   costs_pass = trees.costs_pass files name r program.tree text has (its_tree text r program comes)
 
 module _ (files : Change Held) (build : Build) (r : ResolvedTree) (program : Accepted) (text : List ℕ) (has : HasText files.old text_limit build.program text) (comes : ComesTo text r program) where
-  pub too_few : (said : Option (List ℕ)) → HasCostText files.old build.costs said → (cs : Costs) → AreSaid program.tree said cs → (need : ℕ) → IsShort program.tree build.processors need → IsCalm files →
-      IsNotLoaded files (build_stages build) (verdict.Refused (refusal.TooFew need))
-  too_few = trees.too_few files build r program.tree text has (its_tree text r program comes)
+  -- where no counts are chosen the stages of a build don't pass
+  pub unchosen : (v : Verdict) → IsUnchosen files build.costs program.tree build.processors v → IsNotLoaded files (build_stages build) v
+  unchosen = trees.unchosen files build r program.tree text has (its_tree text r program comes)
 
 module _ (build : Build) (r : ResolvedTree) (loaded : Allotted) where
   -- where all is loaded all stages of a build pass

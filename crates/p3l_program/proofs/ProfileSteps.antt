@@ -22,6 +22,7 @@ use Rattle.p3l_report.specs.declared.verdict.Verdict.TheVariants as verdict
 use Rattle.p3l_report.specs.Status as status
 use Rattle.p3l_report.specs.Verdict.{ending_status, finish_status}
 use Rattle.p3l_report.proofs.Statuses as statuses
+use Rattle.p3l_run.specs.declared.end.RunEnd.TheVariants as end
 use Rattle.p3l_run.specs.Feed.{closed_so}
 use Rattle.p3l_run.specs.Network.{Network}
 use Rattle.p3l_run.specs.Write.{HasBegun, HasPut}
@@ -33,8 +34,8 @@ use Rattle.p3l_stream.specs.Items.{items_of}
 use Rattle.p3l_profile.specs.Greatest.{Greatest, none_noted, noted_all}
 use Rattle.p3l_profile.specs.Law.{HasTheGreatest, notes_of}
 use Rattle.p3l_profile.specs.Text.{text_of}
-use Rattle.p3l_run.specs.declared.sample.Sampled.{Sampled}
-use Rattle.p3l_run.specs.declared.sample.Sampled.TheVariants as sampled
+use Rattle.p3l_run.specs.declared.sampling.Sampled.{Sampled}
+use Rattle.p3l_run.specs.declared.sampling.Sampled.TheVariants as sampled
 use Rattle.p3l_run.specs.Sampling.{EndsSo, IsSampled, IsValue}
 use Rattle.p3l_program.specs.declared.plan.Accepted.{Accepted}
 use Rattle.p3l_program.specs.Load.{IsProgram}
@@ -80,9 +81,9 @@ module _ (tree : Tree) (codes : List Code) (known : HasTheGreatest) (g : Greates
 
   profiled_so : (close : Ending) → Ended close → (f : Finish) → ClosesSo tree g close out f → IsProfiled (coded tree codes) input out f
   profiled_so close h finish.Done c = noted_so close h c
-  profiled_so close h (finish.Stream other) c = subst (StopsSo (coded tree codes) input out) (sym c.0) (record { other = c.1; all = all_given close h; out_still = c.2 })
-  profiled_so close h (finish.Stopped fired idle) c = absurd c
-  profiled_so close h (finish.Trapped number kind home) c = absurd c
+  profiled_so close h (finish.Run (end.Stream other)) c = subst (StopsSo (coded tree codes) input out) (sym c.0) (record { other = c.1; all = all_given close h; out_still = c.2 })
+  profiled_so close h (finish.Run (end.Stopped fired idle)) c = absurd c
+  profiled_so close h (finish.Run (end.Trapped number kind home)) c = absurd c
   profiled_so close h (finish.Differs line) c = absurd c
 
   -- and this is how its profile ends
@@ -181,9 +182,9 @@ ends_profile w name finish.Done stats h = record {
     };
   });
 }
-ends_profile w name (finish.Stream close) stats h = record { r = h.r; has = h.has; begun = inl h.profiled.out_still }
-ends_profile w name (finish.Trapped number kind home) stats h = record { r = h.r; has = h.has; begun = inl h.profiled.out_still }
-ends_profile w name (finish.Stopped fired idle) stats h = absurd h.profiled
+ends_profile w name (finish.Run (end.Stream close)) stats h = record { r = h.r; has = h.has; begun = inl h.profiled.out_still }
+ends_profile w name (finish.Run (end.Trapped number kind home)) stats h = record { r = h.r; has = h.has; begun = inl h.profiled.out_still }
+ends_profile w name (finish.Run (end.Stopped fired idle)) stats h = absurd h.profiled
 ends_profile w name (finish.Differs line) stats h = absurd h.profiled
 
 -- an ending that is no fault of reading lets the count of the input stay
@@ -197,26 +198,26 @@ calm_close ending.TooLong before now other cause = cause
 
 pub profile_calm : (w : World) (name : List ℕ) (f : Finish) (stats : Option Stats) → EndsProfile w name f stats → (finish_status f ≡ status.trap → ⊥) → (finish_status f ≡ status.read → ⊥) → w.input.now ≡ w.input.before
 profile_calm w name finish.Done stats h trap read = h.profiled.all.gives.cause
-profile_calm w name (finish.Stream close) stats h trap read = calm_close close _ _ read h.profiled.all.gives.cause
-profile_calm w name (finish.Trapped number kind home) stats h trap read = absurd (trap refl)
-profile_calm w name (finish.Stopped fired idle) stats h trap read = absurd h.profiled
+profile_calm w name (finish.Run (end.Stream close)) stats h trap read = calm_close close _ _ read h.profiled.all.gives.cause
+profile_calm w name (finish.Run (end.Trapped number kind home)) stats h trap read = absurd (trap refl)
+profile_calm w name (finish.Run (end.Stopped fired idle)) stats h trap read = absurd h.profiled
 profile_calm w name (finish.Differs line) stats h trap read = absurd h.profiled
 
 -- a fault of reading is answered where the count of the input rose
 pub profile_read : (w : World) (name : List ℕ) (f : Finish) (stats : Option Stats) → EndsProfile w name f stats → finish_status f ≡ status.read → HasRisen w.input
 profile_read w name finish.Done stats h is = absurd (omega arith)
-profile_read w name (finish.Stream close) stats h is =
+profile_read w name (finish.Run (end.Stream close)) stats h is =
     subst (λ e. GivenCause (Some (Ok e)) w.input.before w.input.now) (statuses.read_is close is) h.profiled.all.gives.cause
-profile_read w name (finish.Trapped number kind home) stats h is = absurd (omega arith)
-profile_read w name (finish.Stopped fired idle) stats h is = absurd h.profiled
+profile_read w name (finish.Run (end.Trapped number kind home)) stats h is = absurd (omega arith)
+profile_read w name (finish.Run (end.Stopped fired idle)) stats h is = absurd h.profiled
 profile_read w name (finish.Differs line) stats h is = absurd h.profiled
 
 -- no profile is stopped
 pub profile_unstopped : (w : World) (name : List ℕ) (f : Finish) (stats : Option Stats) → EndsProfile w name f stats → finish_status f ≡ status.stopped → ⊥
 profile_unstopped w name finish.Done stats h is = absurd (omega arith)
-profile_unstopped w name (finish.Stream close) stats h is = ending_unstopped close is
-profile_unstopped w name (finish.Trapped number kind home) stats h is = absurd (omega arith)
-profile_unstopped w name (finish.Stopped fired idle) stats h is = h.profiled
+profile_unstopped w name (finish.Run (end.Stream close)) stats h is = ending_unstopped close is
+profile_unstopped w name (finish.Run (end.Trapped number kind home)) stats h is = absurd (omega arith)
+profile_unstopped w name (finish.Run (end.Stopped fired idle)) stats h is = h.profiled
 profile_unstopped w name (finish.Differs line) stats h is = h.profiled
 
 -- the items of an input that came to its end are those that it gave
@@ -248,9 +249,9 @@ profile_whole w name rest taken finish.Done stats put input is h =
       values = subst (λ (i : Items). HaveValues p i.items) (sym same) all.values;
       taken_is = subst (λ (i : Items). w.out.new ≡ Some (taken ++ cost_file p i.items)) (sym same) (put (cost_file p all.items) h.profiled.put);
     }
-profile_whole w name rest taken (finish.Stream close) stats put input is h = absurd (h.profiled.other (statuses.done_is close is))
-profile_whole w name rest taken (finish.Trapped number kind home) stats put input is h = absurd (omega arith)
-profile_whole w name rest taken (finish.Stopped fired idle) stats put input is h = absurd h.profiled
+profile_whole w name rest taken (finish.Run (end.Stream close)) stats put input is h = absurd (h.profiled.other (statuses.done_is close is))
+profile_whole w name rest taken (finish.Run (end.Trapped number kind home)) stats put input is h = absurd (omega arith)
+profile_whole w name rest taken (finish.Run (end.Stopped fired idle)) stats put input is h = absurd h.profiled
 profile_whole w name rest taken (finish.Differs line) stats put input is h = absurd h.profiled
 
 -- where a program has values on items none of them has a trap
@@ -310,15 +311,15 @@ profile_status_expected w name rest finish.Done stats known calm h = record {
   has = h.has;
   status_is = ended_status h.r w.input rest known calm.input ending.End h.profiled.all;
 }
-profile_status_expected w name rest (finish.Stream close) stats known calm h = record {
+profile_status_expected w name rest (finish.Run (end.Stream close)) stats known calm h = record {
   r = h.r;
   has = h.has;
   status_is = ended_status h.r w.input rest known calm.input close h.profiled.all;
 }
-profile_status_expected w name rest (finish.Trapped number kind home) stats known calm h = record {
+profile_status_expected w name rest (finish.Run (end.Trapped number kind home)) stats known calm h = record {
   r = h.r;
   has = h.has;
   status_is = trapped_status h.r w.input rest known calm.input w.out number kind home h.profiled;
 }
-profile_status_expected w name rest (finish.Stopped fired idle) stats known calm h = absurd h.profiled
+profile_status_expected w name rest (finish.Run (end.Stopped fired idle)) stats known calm h = absurd h.profiled
 profile_status_expected w name rest (finish.Differs line) stats known calm h = absurd h.profiled

@@ -20,6 +20,7 @@ use Rattle.p3l_io.specs.Causes.{Rose}
 use Rattle.p3l_opts.specs.declared.command.Build.{Build}
 use Rattle.p3l_report.specs.declared.stats.Stats.{Stats}
 use Rattle.p3l_report.specs.declared.verdict.Finish.{Finish}
+use Rattle.p3l_report.specs.declared.verdict.Finish.TheVariants.{Run}
 use Rattle.p3l_run.proofs.RunSteps.{nothing_comes}
 use Rattle.p3l_sched.specs.declared.schedule.Schedule.{Schedule}
 use Rattle.p3l_sched.specs.declared.schedule.Schedule.TheVariants.{Recorded}
@@ -35,7 +36,6 @@ use Rattle.p3l_program.specs.Plan.{HasNetwork}
 use Rattle.p3l_program.specs.Replay.{EveryTimedRunIsReplayed}
 use Rattle.p3l_program.specs.Run.{seen_of}
 use Rattle.p3l_program.specs.Scheduled.{HasPicks, picks_limit}
-use Rattle.p3l_program.specs.Verdict.{run_finish}
 use Rattle.p3l_program.specs.Time.{EndsTime}
 use Rattle.p3l_program.specs.World.{World}
 use Rattle.p3l_program.proofs.DeterminedSteps.{one_network}
@@ -164,7 +164,7 @@ replayed w build name finish report held e has =
           record {
             finish_is =
                 r.finish_is
-                ∙ ap run_finish (here_finish
+                ∙ ap Run (here_finish
                 ∙ ap (λ (n : Network). finish_of n (course_of n r.s (seen_of (width_of n) rest).items) (seen_of (width_of n) rest).ending) same
                 ∙ ap (λ s. finish_of e.n (course_of e.n s (seen_of (width_of e.n) rest).items) (seen_of (width_of e.n) rest).ending) s_is
                 ∙ sym my_finish)

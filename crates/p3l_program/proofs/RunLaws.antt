@@ -9,7 +9,7 @@ use Rattle.p3l_report.proofs.Statuses as statuses
 use Rattle.p3l_report.specs.declared.stats.Stats.{Stats}
 use Rattle.p3l_report.specs.declared.verdict.Finish.{Finish}
 use Rattle.p3l_report.specs.Status as status
-use Rattle.p3l_report.specs.Verdict.{ending_status, finish_status}
+use Rattle.p3l_report.specs.Verdict.{end_status, ending_status, finish_status}
 use Rattle.p3l_stream.specs.declared.items.Ending.{Ending}
 use Rattle.p3l_stream.specs.declared.items.Ending.TheVariants as ending
 use Rattle.p3l_stream.specs.Given.{Closes, GivenCause, ended_by as items_ended}
@@ -30,7 +30,6 @@ use Rattle.p3l_program.specs.Recorded.{IsRecorded, IsRecordOf}
 use Rattle.p3l_program.specs.Run.{Emits, EndsRun, RunsWhole, StopsRun, UnsavedRun, run_behavior}
 use Rattle.p3l_program.specs.Saved.{HasOneFailed}
 use Rattle.p3l_program.specs.Scheduled.{HasSchedule}
-use Rattle.p3l_program.specs.Verdict.{run_finish}
 use Rattle.p3l_program.specs.World.{Change, World}
 use Rattle.p3l_program.proofs.EndSteps.{IsStream, ended_known, put_known, stream_is}
 use Rattle.p3l_program.proofs.Lawful.{Lawful}
@@ -39,7 +38,7 @@ use Rattle.p3l_program.proofs.SeenSteps.{seen_status, seen_stops, still_of, stop
 
 module _ (n : Network) (s : Schedule) (keeping : Keeping) (rest left : Option (List ℕ)) (before now : ℕ) (taken taken' : Option (List ℕ)) (end : Ran)
     (ran : Finishes n s keeping rest left before now taken taken' end) where
-  run_stream : (k : ℕ) → finish_status (run_finish end.finish) ≡ k → (k ≢ status.stopped) → (k ≢ status.trap) → IsStream end.finish k
+  run_stream : (k : ℕ) → end_status end.finish ≡ k → (k ≢ status.stopped) → (k ≢ status.trap) → IsStream end.finish k
   run_stream k h stopped trap = stream_is end.finish k h stopped trap
 
   closed_by : (k : ℕ) → (st : IsStream end.finish k) → ran.close ≡ Some st.e
@@ -48,12 +47,12 @@ module _ (n : Network) (s : Schedule) (keeping : Keeping) (rest left : Option (L
   run_cause : (k : ℕ) → (st : IsStream end.finish k) → GivenCause (closed_so (Some st.e)) before now
   run_cause k st = subst (λ c. GivenCause (closed_so c) before now) (closed_by k st) ran.gives.cause
 
-  pub run_read : finish_status (run_finish end.finish) ≡ status.read → Rose before now
+  pub run_read : end_status end.finish ≡ status.read → Rose before now
   run_read h =
       let st = run_stream status.read h (λ e. absurd (omega arith)) (λ e. absurd (omega arith)) in
       subst (λ e. GivenCause (closed_so (Some e)) before now) (statuses.read_is st.e st.status_is) (run_cause status.read st)
 
-  pub run_calm : (k : ℕ) → finish_status (run_finish end.finish) ≡ k → (k ≢ status.stopped) → (k ≢ status.trap) → (k ≢ status.read) → now ≡ before
+  pub run_calm : (k : ℕ) → end_status end.finish ≡ k → (k ≢ status.stopped) → (k ≢ status.trap) → (k ≢ status.read) → now ≡ before
   run_calm k h stopped trap read = (let st = run_stream k h stopped trap in by st.e (λ e. read (sym st.status_is ∙ ap ending_status e)) (run_cause k st))
     where
       by : (e : Ending) → (e ≡ ending.ReadFault → ⊥) → GivenCause (closed_so (Some e)) before now → now ≡ before
@@ -78,7 +77,7 @@ pub record IsWholeRun (n : Network) (items : List (List ℤ)) (rest taken : List
 
 -- a run of status 0 is
 pub whole_of : (n : Network) (s : Schedule) (keeping : Keeping) (old left : Option (List ℕ)) (before now : ℕ) (out taken' : Option (List ℕ)) (end : Ran) (f : Finishes n s keeping old left before now out taken' end) (rest taken : List ℕ) → old ≡ Some rest → out ≡ Some taken →
-    finish_status (run_finish end.finish) ≡ status.done → IsWholeRun n f.items rest taken left taken'
+    end_status end.finish ≡ status.done → IsWholeRun n f.items rest taken left taken'
 whole_of n s keeping old left before now out taken' end f rest taken input known h =
     let g = f.gives in
     let st = run_stream n s keeping old left before now out taken' end f status.done h (λ z. absurd (omega arith)) (λ z. absurd (omega arith)) in

@@ -8,6 +8,7 @@ use Rattle.p3l_report.specs.declared.verdict.Refusal.{Refusal}
 use Rattle.p3l_report.specs.declared.verdict.Refusal.TheVariants as refusal
 use Rattle.p3l_report.specs.declared.verdict.Verdict.{Verdict}
 use Rattle.p3l_report.specs.declared.verdict.Verdict.TheVariants as verdict
+use Rattle.p3l_report.specs.Verdict.{verdict_of}
 use Rattle.p3l_firing.specs.Outcomes.{IsPrefixOf}
 use Rattle.p3l_run.specs.declared.keeping.Keeping.{Keeping}
 use Rattle.p3l_run.specs.declared.run.Ran.{Ran}
@@ -27,7 +28,7 @@ use Rattle.p3l_program.specs.Origin.{Origin}
 use Rattle.p3l_program.specs.Run.{BeginsRun, EndsRun, HasBadPicks, HasNoSchedule, IsRunExpected, IsRunOf, IsRunOver, IsRunSome, IsUnsavedRun, KeepsRun, RunsOver, UnsavedRun}
 use Rattle.p3l_program.specs.Scheduled.{HasNoPicks, HasSchedule, picks_limit}
 use Rattle.p3l_program.specs.Stage.{AllPass, FilesCause, IsRefusedBy, Refuses, origin_stages, run_stages, schedule_stages, scheduled}
-use Rattle.p3l_program.specs.World.{Change, IsStill, world}
+use Rattle.p3l_program.specs.World.{Change, IsCalm, IsStill, world}
 use Rattle.p3l_program.proofs.PickSteps.{read_or_refused}
 use Rattle.p3l_program.proofs.LoadSteps.{not_loaded_front}
 use Rattle.p3l_program.proofs.StageSteps.{passed_both, refused_after}
@@ -57,6 +58,13 @@ run_unloaded files input out origin request trace reported v still silent h =
     not_loaded (world files input out) (run_stages origin request) (EndsRun (world files input out) origin request trace reported) (BeginsRun (world files input out) origin request) (UnsavedRun (world files input out) origin request trace) v still silent
     (not_loaded_front files (origin_stages origin) (schedule_stages origin request) v h)
 
+-- a text of picks that is refused
+pub unscheduled : (files : Change Held) (count : ℕ) (name text : List ℕ) (why : PickRefusal) → HasText files.old picks_limit name text → Reads text count (Err why) → IsCalm files →
+    HasNoSchedule files count (sched.File name) (verdict_of (refusal.Schedule why))
+unscheduled files count name text picks.NoMemory has reads calm = calm
+unscheduled files count name text (picks.BadPick line) has reads calm = inr (record { text = text; has = has; bad = (reads, λ e. absurd cc); calm = calm })
+unscheduled files count name text (picks.NoSuchProcess line pick of_count) has reads calm = inr (record { text = text; has = has; bad = (reads, λ e. absurd cc); calm = calm })
+
 -- a network that was loaded is run
 module _ (files : Change Held) (input out : Change (List ℕ)) (origin : Origin) (n : Network) (loads : LoadsNetwork files.old origin n) where
   has : HasNetwork files.old origin n
@@ -82,7 +90,7 @@ module _ (files : Change Held) (input out : Change (List ℕ)) (origin : Origin)
 
   -- as what is run has one network, a text that is refused for it has no picks
   no_picks : (name text : List ℕ) (r : PickRefusal) → HasText files.old picks_limit name text → Reads text (size_of n) (Err r) → (r ≡ picks.NoMemory → ⊥) → HasNoPicks files.old origin name r
-  no_picks name text r held reads some = record {
+  no_picks name text r held reads named = record {
     texts = loads.texts;
     have = loads.have;
     picks = text;
@@ -91,18 +99,17 @@ module _ (files : Change Held) (input out : Change (List ℕ)) (origin : Origin)
       n = n;
       is = loads.is;
       reads = reads;
-      never = λ other read here q. read_or_refused text (size_of n) read r some (subst (λ m. Reads text (size_of m) (Ok read)) (loads.only other here) q) reads;
+      named = named;
+      never = λ other read here q. read_or_refused text (size_of n) read r named (subst (λ m. Reads text (size_of m) (Ok read)) (loads.only other here) q) reads;
     };
   }
 
   bad_picks : (name : List ℕ) (r : Refusal) → HasBadPicks files (size_of n) name r → Refuses files (scheduled origin name) r
-  bad_picks name (refusal.BadPick line) h = no_picks name h.text (picks.BadPick line) h.has h.bad (λ e. absurd cc)
-  bad_picks name (refusal.NoSuchProcess line pick count) h = no_picks name h.text (picks.NoSuchProcess line pick count) h.has h.bad (λ e. absurd cc)
+  bad_picks name (refusal.Schedule why) h = no_picks name h.text why h.has h.bad.0 h.bad.1
   bad_picks name r h = absurd h.bad
 
   files_cause : (r : Refusal) (name : List ℕ) → HasBadPicks files (size_of n) name r → FilesCause r files
-  files_cause (refusal.BadPick line) name h = h.calm
-  files_cause (refusal.NoSuchProcess line pick count) name h = h.calm
+  files_cause (refusal.Schedule why) name h = h.calm
   files_cause r name h = absurd h.bad
 
   pub refused_by : (request : Sched) (r : Refusal) → HasNoSchedule files (size_of n) request (verdict.Refused r) → IsRefusedBy files (run_stages origin request) r × FilesCause r files

@@ -9,6 +9,7 @@ use Rattle.p3l_report.specs.declared.verdict.Finish.{Finish}
 use Rattle.p3l_report.specs.declared.verdict.Finish.TheVariants as finish
 use Rattle.p3l_report.specs.Status as status
 use Rattle.p3l_report.specs.Verdict.{ending_status, finish_status}
+use Rattle.p3l_run.specs.declared.end.RunEnd.TheVariants as end
 use Rattle.p3l_run.specs.Checkpoint.{Reaches}
 use Rattle.p3l_run.specs.Checkpoint as checkpoint
 use Rattle.p3l_run.specs.declared.checkpoint.Checkpoint.{Checkpoint}
@@ -60,11 +61,11 @@ module _ (w : World) (build : Build) (name output : List ℕ) where
   save_begun : (f : Finish) (report : Option Stats) → EndsSave w build name output f report → BeginsSave w build name
   save_begun finish.Done report e =
       record { n = e.n; counts = e.counts; image = e.image; picks = e.picks; has = e.has; begun = begun_so e.n e.picks w.input w.out e.to.comes.is.reached e.to.comes.meant }
-  save_begun (finish.Stream k) report e =
+  save_begun (finish.Run (end.Stream k)) report e =
       record { n = e.n; counts = e.counts; image = e.image; picks = e.picks; has = e.has; begun = begun_so e.n e.picks w.input w.out e.to.0.is.reached e.to.0.meant }
-  save_begun (finish.Trapped item kind home) report e =
+  save_begun (finish.Run (end.Trapped item kind home)) report e =
       record { n = e.n; counts = e.counts; image = e.image; picks = e.picks; has = e.has; begun = begun_so e.n e.picks w.input w.out e.to.0.is.reached e.to.0.meant }
-  save_begun (finish.Stopped fired idle) report e = absurd e.to
+  save_begun (finish.Run (end.Stopped fired idle)) report e = absurd e.to
   save_begun (finish.Differs line) report e = absurd e.to
 
   -- an end of status 0 is whole
@@ -103,9 +104,9 @@ module _ (w : World) (build : Build) (name output : List ℕ) where
         snapshot_is = e.to.snapshot_is;
         stands = e.to.stands;
       }
-  save_whole rest taken (finish.Stream k) report input out h e = absurd (e.to.0.is.other (statuses.done_is k h))
-  save_whole rest taken (finish.Trapped item kind home) report input out h e = absurd (omega arith)
-  save_whole rest taken (finish.Stopped fired idle) report input out h e = absurd e.to
+  save_whole rest taken (finish.Run (end.Stream k)) report input out h e = absurd (e.to.0.is.other (statuses.done_is k h))
+  save_whole rest taken (finish.Run (end.Trapped item kind home)) report input out h e = absurd (omega arith)
+  save_whole rest taken (finish.Run (end.Stopped fired idle)) report input out h e = absurd e.to
   save_whole rest taken (finish.Differs line) report input out h e = absurd e.to
 
   -- where no fault comes it ends with the status that is expected
@@ -126,7 +127,7 @@ module _ (w : World) (build : Build) (name output : List ℕ) where
           | inr ended ↦ status_ended e.n e.picks w.input w.out r rest input calm.input s.calm ending.End ended
         ];
       }
-  save_status_expected rest (finish.Stream k) report input calm e =
+  save_status_expected rest (finish.Run (end.Stream k)) report input calm e =
       let s = e.to.0.is in
       let r = s.reached in record {
         n = e.n;
@@ -139,7 +140,7 @@ module _ (w : World) (build : Build) (name output : List ℕ) where
         is_used = used_seen e.n e.picks w.input w.out r rest input calm.input e.to.0.meant (λ quiet left. (k, s.close_is));
         status_is = status_ended e.n e.picks w.input w.out r rest input calm.input s.calm k s.close_is;
       }
-  save_status_expected rest (finish.Trapped item kind home) report input calm e =
+  save_status_expected rest (finish.Run (end.Trapped item kind home)) report input calm e =
       let s = e.to.0.is in
       let r = s.reached in record {
         n = e.n;
@@ -152,36 +153,36 @@ module _ (w : World) (build : Build) (name output : List ℕ) where
         is_used = used_seen e.n e.picks w.input w.out r rest input calm.input e.to.0.meant (λ quiet left. absurd (true_is_not_false (sym s.trapped ∙ quiet)));
         status_is = status_trapped e.n e.picks w.input w.out r rest input calm.input s.trapped;
       }
-  save_status_expected rest (finish.Stopped fired idle) report input calm e = absurd e.to
+  save_status_expected rest (finish.Run (end.Stopped fired idle)) report input calm e = absurd e.to
   save_status_expected rest (finish.Differs line) report input calm e = absurd e.to
 
   -- a fault of reading is answered where the count of the input rose, and else it stays
   save_read : (f : Finish) (report : Option Stats) → EndsSave w build name output f report → finish_status f ≡ status.read → HasRisen w.input
   save_read finish.Done report e h = absurd (omega arith)
-  save_read (finish.Stream k) report e h =
+  save_read (finish.Run (end.Stream k)) report e h =
       let s = e.to.0.is in
       subst (λ c. GivenCause (closed_so c) w.input.before w.input.now) (s.close_is ∙ ap Some (statuses.read_is k h)) s.reached.gives.cause
-  save_read (finish.Trapped item kind home) report e h = absurd (omega arith)
-  save_read (finish.Stopped fired idle) report e h = absurd e.to
+  save_read (finish.Run (end.Trapped item kind home)) report e h = absurd (omega arith)
+  save_read (finish.Run (end.Stopped fired idle)) report e h = absurd e.to
   save_read (finish.Differs line) report e h = absurd e.to
 
   save_calm : (f : Finish) (report : Option Stats) → EndsSave w build name output f report → IsCalmStatus (finish_status f) → w.input.now ≡ w.input.before
   save_calm finish.Done report e h =
       let s = e.to.comes.is in
       unrefused_calm s.reached.close w.input.before w.input.now (unrefused e.n e.picks w.input w.out e.to.saved s) s.reached.gives.cause
-  save_calm (finish.Stream k) report e h =
+  save_calm (finish.Run (end.Stream k)) report e h =
       let s = e.to.0.is in
       ended_calm k w.input.before w.input.now h.3 (subst (λ c. GivenCause (closed_so c) w.input.before w.input.now) s.close_is s.reached.gives.cause)
-  save_calm (finish.Trapped item kind home) report e h = absurd (h.2 refl)
-  save_calm (finish.Stopped fired idle) report e h = absurd e.to
+  save_calm (finish.Run (end.Trapped item kind home)) report e h = absurd (h.2 refl)
+  save_calm (finish.Run (end.Stopped fired idle)) report e h = absurd e.to
   save_calm (finish.Differs line) report e h = absurd e.to
 
   -- it is never stopped
   save_unstopped : (f : Finish) (report : Option Stats) → EndsSave w build name output f report → finish_status f ≡ status.stopped → ⊥
   save_unstopped finish.Done report e h = absurd (omega arith)
-  save_unstopped (finish.Stream k) report e h = ending_unstopped k h
-  save_unstopped (finish.Trapped item kind home) report e h = absurd (omega arith)
-  save_unstopped (finish.Stopped fired idle) report e h = absurd e.to
+  save_unstopped (finish.Run (end.Stream k)) report e h = ending_unstopped k h
+  save_unstopped (finish.Run (end.Trapped item kind home)) report e h = absurd (omega arith)
+  save_unstopped (finish.Run (end.Stopped fired idle)) report e h = absurd e.to
   save_unstopped (finish.Differs line) report e h = absurd e.to
 
 pub save_lawful : (build : Build) (name output : List ℕ) → Lawful (save_behavior build name output)

@@ -62,7 +62,7 @@ use Rattle.p3l_program.specs.Run.{seen_of}
 use Rattle.p3l_program.specs.SaveState.{BeginsSave, EndsSave, FitsSome, HasImaged, HasPicked, IsMeant, IsReached, IsSaveBegun, IsSaveExpected, IsSaveOf, IsSaveOver, IsSaveSome, IsUnreached, IsUsed, IsWriting, KeepsSave, SavesOver, SavesTo, UnsavedState, save_stages, save_status, snapshot, units_of, unused_status}
 use Rattle.p3l_program.specs.Scheduled.{HasPicks}
 use Rattle.p3l_program.specs.Stage.{AllPass, build_stages, schedule_stages}
-use Rattle.p3l_program.specs.Verdict.{fault_verdict, run_finish}
+use Rattle.p3l_program.specs.Verdict.{fault_verdict}
 use Rattle.p3l_program.specs.World.{Change, HasRisen, IsCalm, IsStill, world}
 use Rattle.p3l_program.proofs.LoadSteps.{not_loaded_front}
 use Rattle.p3l_program.proofs.RunSteps.{all_passes, refused_by}
@@ -182,7 +182,7 @@ module _ (n : Network) (files : Change Held) (input out : Change (List ℕ)) (na
   never_stopped None k fired idle h = cc
   never_stopped (Some t) k fired idle h = cc
 
-  pub ended_so : (f : RunEnd) → IsCheckpointEnd n picks input.old input.new input.before input.now out.old out.new (Ok (ends.Ended f)) → IsCalm files → IsCalm out → IsUnreached n files input out name (verdict.Ended (run_finish f) None)
+  pub ended_so : (f : RunEnd) → IsCheckpointEnd n picks input.old input.new input.before input.now out.old out.new (Ok (ends.Ended f)) → IsCalm files → IsCalm out → IsUnreached n files input out name (verdict.Ended (finish.Run f) None)
   ended_so (end.Stream e) h calm quiet =
       (refl, record { picks = picks; picks_are = has; ends = record { report_is = refl; is = h; meant = meant_so n picks input out h.reached laws starts } }, calm, quiet)
   ended_so (end.Trapped item kind home) h calm quiet =
@@ -220,10 +220,10 @@ module _ (n : Network) (counts : List ℕ) (capacity : ℕ) (image : List ℕ) (
   -- it came to no checkpoint
   pub save_unreached : (v : Verdict) → files.new ≡ files.old → IsUnreached n files input out name v → IsSaveOf n counts capacity image files input out name output v
   save_unreached (verdict.Refused r) same h = h
-  save_unreached (verdict.Ended (finish.Stream e) report) same h = ended_early h.1.picks h.1.picks_are same h.2 h.3 report h.0 (finish.Stream e) (h.1.ends, same)
-  save_unreached (verdict.Ended (finish.Trapped item kind home) report) same h = ended_early h.1.picks h.1.picks_are same h.2 h.3 report h.0 (finish.Trapped item kind home) (h.1.ends, same)
+  save_unreached (verdict.Ended (finish.Run (end.Stream e)) report) same h = ended_early h.1.picks h.1.picks_are same h.2 h.3 report h.0 (finish.Run (end.Stream e)) (h.1.ends, same)
+  save_unreached (verdict.Ended (finish.Run (end.Trapped item kind home)) report) same h = ended_early h.1.picks h.1.picks_are same h.2 h.3 report h.0 (finish.Run (end.Trapped item kind home)) (h.1.ends, same)
   save_unreached (verdict.Ended finish.Done report) same h = absurd h.1.ends
-  save_unreached (verdict.Ended (finish.Stopped fired idle) report) same h = absurd h.1.ends
+  save_unreached (verdict.Ended (finish.Run (end.Stopped fired idle)) report) same h = absurd h.1.ends
   save_unreached (verdict.Ended (finish.Differs line) report) same h = absurd h.1.ends
   save_unreached verdict.WriteFault same h = inl h
   save_unreached verdict.NoMemory same h = h

@@ -8,7 +8,6 @@ use Rattle.p3l_io.specs.Content.{Held}
 use Rattle.p3l_link.specs.Laws.{EveryNetIsCarried}
 use Rattle.p3l_link.specs.Net.{linked_net}
 use Rattle.p3l_firing.specs.Typed.{IsTyped}
-use Rattle.p3l_report.specs.declared.scan_fault.ScanFault.{ScanFault}
 use Rattle.p3l_report.specs.declared.verdict.Refusal.TheVariants as refusal
 use Rattle.p3l_report.specs.declared.verdict.Verdict.TheVariants as verdict
 use Rattle.p3l_run.specs.Network.{IsSound, Network, network, network_named}
@@ -31,7 +30,7 @@ use Rattle.p3l_program.specs.declared.scan.Planned.{Planned}
 use Rattle.p3l_program.specs.File.{HasText, text_limit}
 use Rattle.p3l_program.specs.Load.{IsNotLoaded, LoadsNetwork}
 use Rattle.p3l_program.specs.Origin.{scanned}
-use Rattle.p3l_program.specs.Plan.{ComesTo, IsScanned, refusal_of_scan, scan_network}
+use Rattle.p3l_program.specs.Plan.{ComesTo, IsScanned, scan_network}
 use Rattle.p3l_program.specs.Scan.{IsPlanned, IsReadyScan}
 use Rattle.p3l_program.specs.Stage.{AllPass, program_stages, scan_stages, scannable}
 use Rattle.p3l_program.specs.World.{Change, IsCalm}
@@ -72,13 +71,12 @@ module _ (r : ResolvedTree) (lawful : IsLawfulTree r.tree) (segments capacity : 
 
 module _ (name : List ℕ) (segments : ℕ) (r : ResolvedTree) where
   -- a program that can't be scanned stops the stages of a scan at their last
-  pub not_scanned : (files : Change Held) (program : Accepted) (text : List ℕ) → HasText files.old text_limit name text → ComesTo text r program → (refused : ScanRefusal) →
-      IsUnscannable program.tree segments refused → IsCalm files → (fault : ScanFault) → refusal_of_scan fault ≡ refused → IsNotLoaded files (scan_stages name segments) (verdict.Refused (refusal.Scan fault))
-  not_scanned files program text has comes refused why calm fault is =
-      let here : IsUnscannable r.tree segments refused = subst (λ t. IsUnscannable t segments refused) comes.compiled.tree_is why in
-      let known : IsUnscannable r.tree segments (refusal_of_scan fault) = subst (λ f. IsUnscannable r.tree segments f) (sym is) here in (
-        refused_after files (program_stages name) (scannable name segments ∷ []) (refusal.Scan fault) (program_passes files name r program text has comes)
-            (inl (record { text = text; has = has; refused = record { r = r; accepted = comes.accepted; only = comes.only; refused = known } })),
+  pub not_scanned : (files : Change Held) (program : Accepted) (text : List ℕ) → HasText files.old text_limit name text → ComesTo text r program → (why : ScanRefusal) →
+      IsUnscannable program.tree segments why → IsCalm files → IsNotLoaded files (scan_stages name segments) (verdict.Refused (refusal.Scan why))
+  not_scanned files program text has comes why refuses calm =
+      let here : IsUnscannable r.tree segments why = subst (λ t. IsUnscannable t segments why) comes.compiled.tree_is refuses in (
+        refused_after files (program_stages name) (scannable name segments ∷ []) (refusal.Scan why) (program_passes files name r program text has comes)
+            (inl (record { text = text; has = has; refused = record { r = r; accepted = comes.accepted; only = comes.only; refused = here } })),
         calm,
       )
 

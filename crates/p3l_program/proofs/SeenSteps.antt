@@ -9,7 +9,7 @@ use Rattle.p3l_io.specs.Causes.{Rose}
 use Rattle.p3l_run.specs.declared.end.RunEnd.{RunEnd}
 use Rattle.p3l_run.specs.declared.end.RunEnd.TheVariants as finish
 use Rattle.p3l_report.specs.Status as status
-use Rattle.p3l_report.specs.Verdict.{ending_status, finish_status}
+use Rattle.p3l_report.specs.Verdict.{end_status, ending_status}
 use Rattle.p3l_run.specs.declared.keeping.Keeping.{Keeping}
 use Rattle.p3l_run.specs.declared.run.Ran.{Ran}
 use Rattle.p3l_run.specs.Feed.{Gives, closed_so, input_limit}
@@ -33,7 +33,6 @@ use Rattle.p3l_stream.specs.declared.line.Line.TheVariants as line
 use Rattle.p3l_stream.specs.Lines.{line_of, lines_of}
 use Rattle.p3l_stream.specs.Items.{items_of, items_of_lines, items_taken, put_line}
 use Rattle.p3l_stream.specs.Seen.{Seen}
-use Rattle.p3l_program.specs.Verdict.{run_finish}
 use Rattle.p3l_program.specs.Run.{run_status, seen_of, status_with, stop_of}
 
 -- what is seen of an input goes on from these items to this ending, as the stream may
@@ -164,10 +163,10 @@ seen_goes_on n rest (Some other) new before now close s items g known calm =
 
 -- so the status of a run on an input that reports what is left, where no fault came, is that of what is seen
 pub seen_status : (n : Network) (s : Schedule) (rest : List ℕ) (keeping : Keeping) (old new : Option (List ℕ)) (before now : ℕ) (taken taken' : Option (List ℕ)) (end : Ran) →
-    old ≡ Some rest → (Rose before now → ⊥) → Finishes n s keeping old new before now taken taken' end → finish_status (run_finish end.finish) ≡ run_status n s rest
+    old ≡ Some rest → (Rose before now → ⊥) → Finishes n s keeping old new before now taken taken' end → end_status end.finish ≡ run_status n s rest
 seen_status n s rest keeping old new before now taken taken' end known calm f =
     let to = seen_goes_on n rest old new before now f.close f.stream f.items f.gives known calm in
-    ap (λ e. finish_status (run_finish e)) (f.ends to.later to.may_come to.e to.may_end) ∙ ap (status_with n s) (sym to.seen)
+    ap (λ e. end_status e) (f.ends to.later to.may_come to.e to.may_end) ∙ ap (status_with n s) (sym to.seen)
 
 -- no ending of a stream is a stop
 pub ending_unstopped : (e : Ending) → ending_status e ≡ status.stopped → ⊥
@@ -179,17 +178,17 @@ ending_unstopped ending.ReadFault h = absurd (omega arith)
 ending_unstopped ending.TooLong h = absurd (omega arith)
 
 -- where a run is stopped some process can fire
-pub stopped_goes : (n : Network) (c : Course) (close : Ending) (f : RunEnd) → f ≡ finish_of n c close → finish_status (run_finish f) ≡ status.stopped → goes_on n c ≡ true
-stopped_goes n c close f is h = by (goes_on n c) (trap_of c.state.emitted) refl (sym (ap (λ k. finish_status (run_finish k)) is) ∙ h)
+pub stopped_goes : (n : Network) (c : Course) (close : Ending) (f : RunEnd) → f ≡ finish_of n c close → end_status f ≡ status.stopped → goes_on n c ≡ true
+stopped_goes n c close f is h = by (goes_on n c) (trap_of c.state.emitted) refl (sym (ap (λ k. end_status k) is) ∙ h)
   where
-    by : (b : Bool) (trap : Option Trap) → goes_on n c ≡ b → finish_status (run_finish (cond b (finish.Stopped c.fired c.idle) (end_of n.named trap (item_number n.start (length c.state.emitted)) close))) ≡ status.stopped → goes_on n c ≡ true
+    by : (b : Bool) (trap : Option Trap) → goes_on n c ≡ b → end_status (cond b (finish.Stopped c.fired c.idle) (end_of n.named trap (item_number n.start (length c.state.emitted)) close)) ≡ status.stopped → goes_on n c ≡ true
     by true trap goes k = goes
     by false None goes k = absurd (ending_unstopped close k)
     by false (Some t) goes k = absurd (omega arith)
 
 -- and it is stopped only where its schedule is that of a file, of which all picks were made
 pub seen_stops : (n : Network) (s : Schedule) (rest : List ℕ) (keeping : Keeping) (old new : Option (List ℕ)) (before now : ℕ) (taken taken' : Option (List ℕ)) (end : Ran) →
-    old ≡ Some rest → (Rose before now → ⊥) → Finishes n s keeping old new before now taken taken' end → finish_status (run_finish end.finish) ≡ status.stopped →
+    old ≡ Some rest → (Rose before now → ⊥) → Finishes n s keeping old new before now taken taken' end → end_status end.finish ≡ status.stopped →
     s ≡ schedule.Recorded (picks_of n s (seen_of (width_of n) rest).items)
 seen_stops n s rest keeping old new before now taken taken' end known calm f h =
     let to = seen_goes_on n rest old new before now f.close f.stream f.items f.gives known calm in

@@ -1,6 +1,7 @@
 -- From the reading and the loading of a snapshot to its stages and its network.
 use Rattle.std.proofs.Common.{◌≡◌, ℕ, ◌≤◌, List, Option, None, sym, ap, ◌∙◌, inl, inr, subst, refl}
-use Rattle.std.specs.declared.result.Result.TheVariants.{Ok}
+use Rattle.std.specs.declared.result.Result.TheVariants.{Ok, Err}
+use Rattle.p3l_format.specs.Format.{read_all}
 use Rattle.p3l_image.specs.declared.image.Image.{Image}
 use Rattle.p3l_io.specs.Content.{Held}
 use Rattle.p3l_load.specs.declared.loaded.Loaded.{Loaded}
@@ -9,19 +10,23 @@ use Rattle.p3l_report.specs.declared.evidence.Evidence.TheVariants as evidence
 use Rattle.p3l_report.specs.declared.verdict.Refusal.TheVariants as refusal
 use Rattle.p3l_report.specs.declared.verdict.Verdict.{Verdict}
 use Rattle.p3l_report.specs.declared.verdict.Verdict.TheVariants as verdict
+use Rattle.p3l_report.specs.Verdict.{verdict_of}
 use Rattle.p3l_resume.specs.declared.saved.Saved.{Saved}
+use Rattle.p3l_resume.specs.declared.saved.ShotRefusal.{ShotRefusal}
+use Rattle.p3l_resume.specs.declared.saved.ShotRefusal.TheVariants as shots
 use Rattle.p3l_resume.specs.Refusal.{Answers}
-use Rattle.p3l_resume.specs.Saved.{IsSpelling}
+use Rattle.p3l_resume.specs.Saved.{IsSpelling, saved_format}
 use Rattle.p3l_run.specs.Network.{Network}
 use Rattle.p3l_skel.specs.Numbers.{procs}
 use Rattle.p3l_program.specs.declared.snapshot.Snapshot.{Snapshot}
+use Rattle.p3l_program.specs.File.{HasText}
 use Rattle.p3l_program.specs.Image.{IsImage, IsRunnableImage}
 use Rattle.p3l_program.specs.Load.{IsNotLoaded, LoadsNetwork}
 use Rattle.p3l_program.specs.LoadImage.{IsUnloadable, LoadsBytes}
 use Rattle.p3l_program.specs.LoadSnapshot.{IsReadySnapshot, LoadsSnapshot, ReadsSnapshot}
 use Rattle.p3l_program.specs.Origin.{continued}
 use Rattle.p3l_program.specs.Plan.{IsContinued, Texts, continued_network}
-use Rattle.p3l_program.specs.Snapshot.{HasSnapshot, IsResumable, IsSoundFor, IsUnsound, SpellsBrokenImage, SpellsNoImage, SpellsWith}
+use Rattle.p3l_program.specs.Snapshot.{HasSnapshot, IsResumable, IsSoundFor, IsUnsound, SpellsBrokenImage, SpellsNoImage, SpellsWith, snapshot_limit}
 use Rattle.p3l_program.specs.Stage.{AllPass, snapshot_stages}
 use Rattle.p3l_program.specs.World.{Change, IsCalm}
 use Rattle.p3l_program.proofs.ImageSteps.{ready}
@@ -29,6 +34,13 @@ use Rattle.p3l_program.proofs.ImageSteps.{ready}
 -- bytes spell one snapshot
 pub same_saved : (bytes : List ℕ) (saved : Saved) → ((other : Saved) → IsSpelling other bytes → Answers bytes (Ok saved) (Ok other)) → (other : Saved) → IsSpelling other bytes → other ≡ saved
 same_saved bytes saved only other is = let z = only other is in cc
+
+-- bytes that are refused stop the stages of a snapshot at their second
+pub unread : (files : Change Held) (name bytes : List ℕ) (why : ShotRefusal) → HasText files.old snapshot_limit name bytes → ((saved : Saved) → IsSpelling saved bytes → Answers bytes (Err why) (Ok saved)) →
+    Answers bytes (Err why) (read_all saved_format bytes) → IsCalm files → IsNotLoaded files (snapshot_stages name) (verdict_of (refusal.Evidence (evidence.Shot why)))
+unread files name bytes shots.NoMemory has only exact calm = calm
+unread files name bytes (shots.BadShot place) has only exact calm =
+    (inr ((bytes, has), inl (record { bytes = bytes; has = has; are = record { misread = sym exact; never = λ saved is. let z = only saved is in absurd cc } })), calm)
 
 -- a snapshot that was read
 module _ (name : List ℕ) (saved : Saved) (files : Change Held) (reads : ReadsSnapshot files.old name saved) where
@@ -51,12 +63,12 @@ module _ (name : List ℕ) (saved : Saved) (files : Change Held) (reads : ReadsS
 
   -- it stops the stages at its image, where that doesn't load
   pub not_loaded_with : IsCalm files → (v : Verdict) → IsUnloadable saved.image v → IsNotLoaded files (snapshot_stages name) v
-  not_loaded_with calm (verdict.Refused (refusal.Evidence e)) (inl none) = (
+  not_loaded_with calm (verdict.Refused (refusal.Evidence (evidence.Image why))) none = (
     inr (
       (reads.bytes, reads.has),
       inr (
         (saved, has_spelled),
-        inl (has_such (SpellsNoImage e) (record {
+        inl (has_such (SpellsNoImage why) (record {
           spells = record { saved = saved; spelled = reads.spelled; are = none };
           never = λ i s. none.never i (subst (λ (o : Saved). IsImage i o.image) (reads.only s.saved s.spelled) s.are);
         })),
@@ -64,14 +76,14 @@ module _ (name : List ℕ) (saved : Saved) (files : Change Held) (reads : ReadsS
     ),
     calm,
   )
-  not_loaded_with calm (verdict.Refused (refusal.Evidence e)) (inr broken) = (
+  not_loaded_with calm (verdict.Refused (refusal.Evidence (evidence.Load why))) broken = (
     inr (
       (reads.bytes, reads.has),
       inr (
         (saved, has_spelled),
         inr (
           (broken.i, has_image broken.i broken.is),
-          inl (has_such (SpellsBrokenImage e) (record {
+          inl (has_such (SpellsBrokenImage why) (record {
             spells = record { saved = saved; spelled = reads.spelled; are = broken };
             never = λ i s. broken.never i (subst (λ (o : Saved). IsRunnableImage i o.image) (reads.only s.saved s.spelled) s.are);
           })),

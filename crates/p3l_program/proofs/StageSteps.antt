@@ -4,33 +4,36 @@ use Rattle.p3l_ast.specs.declared.position.Pos.{Pos}
 use Rattle.p3l_ast.specs.declared.refusal.Fault.{Fault}
 use Rattle.p3l_ast.specs.Tree.{ProgramTree}
 use Rattle.p3l_cost.specs.declared.costs.Costs.{Costs}
+use Rattle.p3l_cost.specs.declared.refusal.CostRefusal.{CostRefusal}
 use Rattle.p3l_cert.specs.declared.cert.Cert.{Cert}
+use Rattle.p3l_cert.specs.declared.cert.CertRefusal.{CertRefusal}
 use Rattle.p3l_grammar.specs.Grammar.{Spells}
 use Rattle.p3l_image.specs.declared.image.Image.{Image}
+use Rattle.p3l_image.specs.declared.image.ImageRefusal.{ImageRefusal}
 use Rattle.p3l_io.specs.Content.{Held}
+use Rattle.p3l_load.specs.declared.loaded.LoadRefusal.{LoadRefusal}
 use Rattle.p3l_opts.specs.declared.command.Build.{Build}
-use Rattle.p3l_report.specs.declared.cost_fault.CostFault.{CostFault}
-use Rattle.p3l_report.specs.declared.evidence.Evidence.{Evidence}
 use Rattle.p3l_report.specs.declared.evidence.Evidence.TheVariants as evidence
 use Rattle.p3l_report.specs.declared.verdict.Refusal.{Refusal}
 use Rattle.p3l_report.specs.declared.verdict.Refusal.TheVariants as refusal
-use Rattle.p3l_report.specs.declared.scan_fault.ScanFault.{ScanFault}
-use Rattle.p3l_report.specs.declared.scan_fault.ScanFault.TheVariants as scan
 use Rattle.p3l_report.specs.Verdict.{refusal_status}
+use Rattle.p3l_scan.specs.declared.refusal.ScanRefusal.{ScanRefusal}
+use Rattle.p3l_scan.specs.declared.refusal.ScanRefusal.TheVariants as scan
 use Rattle.p3l_scan.specs.Plan.{IsReduce, IsScannable}
 use Rattle.p3l_scan.specs.Planned.{IsUnscannable}
 use Rattle.p3l_skel.specs.declared.tree.Tree.{Tree}
 use Rattle.std.specs.declared.result.Result.TheVariants.{Ok}
 use Rattle.p3l_resume.specs.declared.saved.Saved.{Saved}
+use Rattle.p3l_resume.specs.declared.saved.ShotRefusal.{ShotRefusal}
 use Rattle.p3l_resume.specs.Saved.{IsSpelling}
 use Rattle.p3l_run.specs.Network.{Network, size_of}
 use Rattle.p3l_sched.specs.declared.refusal.PickRefusal.{PickRefusal}
-use Rattle.p3l_sched.specs.declared.refusal.PickRefusal.TheVariants as picks
 use Rattle.p3l_sched.specs.declared.schedule.Schedule.{Schedule}
 use Rattle.p3l_sched.specs.Picks.{Reads}
 use Rattle.p3l_trace.specs.declared.trace.Traced.{Traced}
+use Rattle.p3l_trace.specs.declared.trace.TraceRefusal.TheVariants as trace
 use Rattle.p3l_check.specs.Resolving.{ResolvedTree}
-use Rattle.p3l_program.specs.Plan.{HasCostText, HasCosts, HasCounts, HasNetwork, HasNoCosts, HasNoScan, HasNoTree, HasScan, HasTooFew, HasTree, HaveTexts, IsAccepted, IsAllotted, IsNetworkOf, IsPriced, Texts, refusal_of_scan}
+use Rattle.p3l_program.specs.Plan.{HasCostText, HasCosts, HasCounts, HasNetwork, HasNoCosts, HasNoScan, HasNoTree, HasScan, HasTooFew, HasTree, HaveTexts, IsAccepted, IsAllotted, IsNetworkOf, IsPriced, Texts}
 use Rattle.p3l_program.specs.Certified.{HasCert, HasNoCert, IsCertified}
 use Rattle.p3l_program.specs.File.{HasFault, HasProgram, HasText, Holds, IsTooLong}
 use Rattle.p3l_program.specs.Image.{HasBytes, IsBrokenImage, IsImage, IsMigratable, IsNoImage, IsRunnableImage, IsUnmigratable}
@@ -58,7 +61,7 @@ passed_both files [] more p q = q
 passed_both files (stage ∷ stages) more p q = (p.0, passed_both files stages more p.1 q)
 
 -- a root that can be scanned is a reduce, and has such segments
-can_or_not : (tree : Tree) (segments : ℕ) (fault : ScanFault) → IsScannable tree segments → IsUnscannable tree segments (refusal_of_scan fault) → ⊥
+can_or_not : (tree : Tree) (segments : ℕ) (why : ScanRefusal) → IsScannable tree segments → IsUnscannable tree segments why → ⊥
 can_or_not tree segments scan.NotReduce can never = never (subst IsReduce (sym can.form) tt)
 can_or_not tree segments scan.BadSegments can never = never.1 can
 
@@ -102,8 +105,8 @@ module _ (files : Option Held) (held : Held) (known : files ≡ Some held) where
       none.refused.never r (subst (λ t. IsAccepted t r) (same_text name none.text has.text none.has.holds has.has.holds) has.accepted)
 
   -- costs that are said are not refused
-  priced_once : (program costs : List ℕ) (r : ResolvedTree) (cs : Costs) (fault : CostFault) → HasCosts files program (Some costs) r cs → HasNoCosts files program costs fault → ⊥
-  priced_once program costs r cs fault has none =
+  priced_once : (program costs : List ℕ) (r : ResolvedTree) (cs : Costs) (why : CostRefusal) → HasCosts files program (Some costs) r cs → HasNoCosts files program costs why → ⊥
+  priced_once program costs r cs why has none =
       let said : has.said ≡ Some none.said = same_said (Some costs) (Some none.said) has.said none.says has.says in
       let moved : IsPriced none.text has.said r cs = subst (λ t. IsPriced t has.said r cs) (same_text program none.text has.text none.has.holds has.has.holds) has.priced in
       none.refused.never r cs (subst (λ s. IsPriced none.text s r cs) said moved)
@@ -117,16 +120,16 @@ module _ (files : Option Held) (held : Held) (known : files ≡ Some held) where
       none.refused.never r cs counts (subst (λ s. IsAllotted none.text s build.processors r cs counts) said moved)
 
   -- bytes that spell an image are not refused as none
-  decoded_once : (name : List ℕ) (i : Image) (e : Evidence) → HasBytes files name (IsImage i) → HasBytes files name (IsNoImage e) → ⊥
-  decoded_once name i e has none = none.are.never i (subst (λ b. IsImage i b) (same_text name none.bytes has.bytes none.has.holds has.has.holds) has.are)
+  decoded_once : (name : List ℕ) (i : Image) (why : ImageRefusal) → HasBytes files name (IsImage i) → HasBytes files name (IsNoImage why) → ⊥
+  decoded_once name i why has none = none.are.never i (subst (λ b. IsImage i b) (same_text name none.bytes has.bytes none.has.holds has.has.holds) has.are)
 
   -- nor those of one that can be run as one that can't
-  loaded_once : (name : List ℕ) (i : Image) (e : Evidence) → HasBytes files name (IsRunnableImage i) → HasBytes files name (IsBrokenImage e) → ⊥
-  loaded_once name i e has none = none.are.never i (subst (λ b. IsRunnableImage i b) (same_text name none.bytes has.bytes none.has.holds has.has.holds) has.are)
+  loaded_once : (name : List ℕ) (i : Image) (why : LoadRefusal) → HasBytes files name (IsRunnableImage i) → HasBytes files name (IsBrokenImage why) → ⊥
+  loaded_once name i why has none = none.are.never i (subst (λ b. IsRunnableImage i b) (same_text name none.bytes has.bytes none.has.holds has.has.holds) has.are)
 
   -- nor those of one that can be migrated as one that can't
-  migrated_once : (name : List ℕ) (i : Image) (e : Evidence) → HasBytes files name (IsMigratable i) → HasBytes files name (IsUnmigratable e) → ⊥
-  migrated_once name i e has none = none.are.never i (subst (λ b. IsMigratable i b) (same_text name none.bytes has.bytes none.has.holds has.has.holds) has.are)
+  migrated_once : (name : List ℕ) (i : Image) (why : LoadRefusal) → HasBytes files name (IsMigratable i) → HasBytes files name (IsUnmigratable why) → ⊥
+  migrated_once name i why has none = none.are.never i (subst (λ b. IsMigratable i b) (same_text name none.bytes has.bytes none.has.holds has.has.holds) has.are)
 
   -- what is run has one list of texts
   same_texts : (origin : Origin) (texts others : Texts) → HaveTexts files origin texts → HaveTexts files origin others → texts ≡ others
@@ -141,26 +144,26 @@ module _ (files : Option Held) (held : Held) (known : files ≡ Some held) where
       ap (λ t. texts_with t texts.said) (same_text name others.text texts.text b.0.holds a.0.holds) ∙ ap (λ s. texts_with others.text s) (a.1 ∙ sym b.1)
 
   -- bytes that spell a snapshot are not refused as none
-  saved_once : (name : List ℕ) (shot : Saved) (e : Evidence) → HasSnapshot files name (IsSpelling shot) → HasSnapshot files name (IsNoSnapshot e) → ⊥
-  saved_once name shot e has none = none.are.never shot (subst (λ b. IsSpelling shot b) (same_text name none.bytes has.bytes none.has.holds has.has.holds) has.are)
+  saved_once : (name : List ℕ) (shot : Saved) (why : ShotRefusal) → HasSnapshot files name (IsSpelling shot) → HasSnapshot files name (IsNoSnapshot why) → ⊥
+  saved_once name shot why has none = none.are.never shot (subst (λ b. IsSpelling shot b) (same_text name none.bytes has.bytes none.has.holds has.has.holds) has.are)
 
   -- nor are those of an image that it has
-  saved_decoded_once : (name : List ℕ) (i : Image) (e : Evidence) → HasSnapshot files name (SpellsWith (IsImage i)) → HasSnapshot files name (SpellsNoImage e) → ⊥
-  saved_decoded_once name i e has none = none.are.never i (subst (λ b. SpellsWith (IsImage i) b) (same_text name none.bytes has.bytes none.has.holds has.has.holds) has.are)
+  saved_decoded_once : (name : List ℕ) (i : Image) (why : ImageRefusal) → HasSnapshot files name (SpellsWith (IsImage i)) → HasSnapshot files name (SpellsNoImage why) → ⊥
+  saved_decoded_once name i why has none = none.are.never i (subst (λ b. SpellsWith (IsImage i) b) (same_text name none.bytes has.bytes none.has.holds has.has.holds) has.are)
 
   -- nor those of one that can be run as one that can't
-  saved_loaded_once : (name : List ℕ) (i : Image) (e : Evidence) → HasSnapshot files name (SpellsWith (IsRunnableImage i)) → HasSnapshot files name (SpellsBrokenImage e) → ⊥
-  saved_loaded_once name i e has none = none.are.never i (subst (λ b. SpellsWith (IsRunnableImage i) b) (same_text name none.bytes has.bytes none.has.holds has.has.holds) has.are)
+  saved_loaded_once : (name : List ℕ) (i : Image) (why : LoadRefusal) → HasSnapshot files name (SpellsWith (IsRunnableImage i)) → HasSnapshot files name (SpellsBrokenImage why) → ⊥
+  saved_loaded_once name i why has none = none.are.never i (subst (λ b. SpellsWith (IsRunnableImage i) b) (same_text name none.bytes has.bytes none.has.holds has.has.holds) has.are)
 
   -- nor is what was saved, where a run can be in that state
   resumable_once : (name : List ℕ) (i : Image) (shot : Saved) → HasSnapshot files name (IsResumable i shot) → HasSnapshot files name IsUnsound → ⊥
   resumable_once name i shot has none = none.are.never i shot (subst (λ b. IsResumable i shot b) (same_text name none.bytes has.bytes none.has.holds has.has.holds) has.are)
 
   -- a program that can be scanned is not refused
-  scanned_once : (name : List ℕ) (segments : ℕ) (r : ResolvedTree) (fault : ScanFault) → HasScan files name segments r → HasNoScan files name segments fault → ⊥
-  scanned_once name segments r fault has none =
+  scanned_once : (name : List ℕ) (segments : ℕ) (r : ResolvedTree) (why : ScanRefusal) → HasScan files name segments r → HasNoScan files name segments why → ⊥
+  scanned_once name segments r why has none =
       let accepted : IsAccepted none.text r = subst (λ t. IsAccepted t r) (same_text name none.text has.has.text none.has.holds has.has.has.holds) has.has.accepted in
-      can_or_not r.tree segments fault has.can (subst (λ o. IsUnscannable o.tree segments (refusal_of_scan fault)) (sym (none.refused.only r accepted)) none.refused.refused)
+      can_or_not r.tree segments why has.can (subst (λ o. IsUnscannable o.tree segments why) (sym (none.refused.only r accepted)) none.refused.refused)
 
   -- where a file has picks for the network it is not refused
   scheduled_once : (origin : Origin) (name : List ℕ) (n : Network) (s : Schedule) (refused : PickRefusal) → HasNetwork files origin n → HasPicks files (size_of n) name s → HasNoPicks files origin name refused → ⊥
@@ -170,8 +173,8 @@ module _ (files : Option Held) (held : Held) (known : files ≡ Some held) where
       none.refused.never n reads.picks is read
 
   -- a certificate that holds is not refused
-  certified_once : (program : List ℕ) (costs : Option (List ℕ)) (name : List ℕ) (r : ResolvedTree) (cs : Costs) (cert : Cert) (shown : Evidence) → HasCert files program costs name r cs cert → HasNoCert files program costs name shown → ⊥
-  certified_once program costs name r cs cert shown has none =
+  certified_once : (program : List ℕ) (costs : Option (List ℕ)) (name : List ℕ) (r : ResolvedTree) (cs : Costs) (cert : Cert) (why : CertRefusal) → HasCert files program costs name r cs cert → HasNoCert files program costs name why → ⊥
+  certified_once program costs name r cs cert why has none =
       let said : has.said ≡ none.said = same_said costs none.said has.said none.says has.says in
       let text : has.text ≡ none.text = same_text program none.text has.text none.has.holds has.has.holds in
       let written : has.written ≡ none.written = same_text name none.written has.written none.held.holds has.held.holds in
@@ -190,22 +193,21 @@ module _ (files : Change Held) (held : Held) (known : files.old ≡ Some held) (
   passed_stage (readable limit name) (refusal.FileTooLong named) p h = not_longer files.old held known limit name p.0 p.1 h.1
   passed_stage (spelled name) (refusal.Source fault pos) p h = spelled_once files.old held known name p.0 fault pos p.1 h
   passed_stage (resolved name) (refusal.Source fault pos) p h = accepted_once files.old held known name p.0 fault pos p.1 h
-  passed_stage (priced program costs) (refusal.Costs fault) p h = priced_once files.old held known program costs p.0 p.1 fault p.2 h
+  passed_stage (priced program costs) (refusal.Costs why) p h = priced_once files.old held known program costs p.0 p.1 why p.2 h
   passed_stage (fitting build) (refusal.TooFew need) p h = fitting_once files.old held known build p.0 p.1 p.2 need p.3 h
-  passed_stage (decoded name) (refusal.Evidence evidence) p h = decoded_once files.old held known name p.0 evidence p.1 h
-  passed_stage (loaded name) (refusal.Evidence evidence) p h = loaded_once files.old held known name p.0 evidence p.1 h
-  passed_stage (migratable name) (refusal.Evidence evidence) p h = migrated_once files.old held known name p.0 evidence p.1 h
-  passed_stage (scheduled origin name) (refusal.BadPick line) p h = scheduled_once files.old held known origin name p.0 p.1 (picks.BadPick line) p.2 p.3 h
-  passed_stage (scheduled origin name) (refusal.NoSuchProcess line pick count) p h = scheduled_once files.old held known origin name p.0 p.1 (picks.NoSuchProcess line pick count) p.2 p.3 h
-  passed_stage (certified program costs name) (refusal.Evidence shown) p h = certified_once files.old held known program costs name p.0 p.1 p.2 shown p.3 h
-  passed_stage (traced name) (refusal.Evidence (evidence.BadLine line)) p h = traced_once files.old held known name p.0 line p.1 h
+  passed_stage (decoded name) (refusal.Evidence (evidence.Image why)) p h = decoded_once files.old held known name p.0 why p.1 h
+  passed_stage (loaded name) (refusal.Evidence (evidence.Load why)) p h = loaded_once files.old held known name p.0 why p.1 h
+  passed_stage (migratable name) (refusal.Evidence (evidence.Load why)) p h = migrated_once files.old held known name p.0 why p.1 h
+  passed_stage (scheduled origin name) (refusal.Schedule why) p h = scheduled_once files.old held known origin name p.0 p.1 why p.2 p.3 h
+  passed_stage (certified program costs name) (refusal.Evidence (evidence.Cert why)) p h = certified_once files.old held known program costs name p.0 p.1 p.2 why p.3 h
+  passed_stage (traced name) (refusal.Evidence (evidence.Trace (trace.BadLine line))) p h = traced_once files.old held known name p.0 line p.1 h
   passed_stage (text_kept text) (refusal.Source fault pos) p h = h.never p.0 p.1
-  passed_stage (text_priced text said) (refusal.Costs fault) p h = h.never p.0 p.1 p.2
+  passed_stage (text_priced text said) (refusal.Costs why) p h = h.never p.0 p.1 p.2
   passed_stage (text_fitting text said processors) (refusal.TooFew need) p h = h.never p.0 p.1 p.2 p.3
-  passed_stage (scannable name segments) (refusal.Scan fault) p h = scanned_once files.old held known name segments p.0 fault p.1 h
-  passed_stage (saved name) (refusal.Evidence shown) p h = saved_once files.old held known name p.0 shown p.1 h
-  passed_stage (saved_decoded name) (refusal.Evidence shown) p h = saved_decoded_once files.old held known name p.0 shown p.1 h
-  passed_stage (saved_loaded name) (refusal.Evidence shown) p h = saved_loaded_once files.old held known name p.0 shown p.1 h
+  passed_stage (scannable name segments) (refusal.Scan why) p h = scanned_once files.old held known name segments p.0 why p.1 h
+  passed_stage (saved name) (refusal.Evidence (evidence.Shot why)) p h = saved_once files.old held known name p.0 why p.1 h
+  passed_stage (saved_decoded name) (refusal.Evidence (evidence.Image why)) p h = saved_decoded_once files.old held known name p.0 why p.1 h
+  passed_stage (saved_loaded name) (refusal.Evidence (evidence.Load why)) p h = saved_loaded_once files.old held known name p.0 why p.1 h
   passed_stage (resumable name) (refusal.Evidence evidence.NotSound) p h = resumable_once files.old held known name p.0 p.1 p.2 h
   passed_stage stage r p h = absurd h
 
@@ -216,25 +218,22 @@ module _ (files : Change Held) (held : Held) (known : files.old ≡ Some held) (
   refused_stage (readable limit name) (refusal.FileTooLong a) (refusal.FileTooLong b) h k = refl
   refused_stage (spelled name) (refusal.Source fault pos) (refusal.Source other at) h k = refl
   refused_stage (resolved name) (refusal.Source fault pos) (refusal.Source other at) h k = refl
-  refused_stage (priced program costs) (refusal.Costs fault) (refusal.Costs other) h k = refl
+  refused_stage (priced program costs) (refusal.Costs why) (refusal.Costs other) h k = refl
   refused_stage (fitting build) (refusal.TooFew need) (refusal.TooFew other) h k = refl
-  refused_stage (decoded name) (refusal.Evidence evidence) (refusal.Evidence other) h k = refl
-  refused_stage (loaded name) (refusal.Evidence evidence) (refusal.Evidence other) h k = refl
-  refused_stage (migratable name) (refusal.Evidence evidence) (refusal.Evidence other) h k = refl
-  refused_stage (scheduled origin name) (refusal.BadPick line) (refusal.BadPick other) h k = refl
-  refused_stage (scheduled origin name) (refusal.BadPick line) (refusal.NoSuchProcess other pick count) h k = refl
-  refused_stage (scheduled origin name) (refusal.NoSuchProcess line pick count) (refusal.BadPick other) h k = refl
-  refused_stage (scheduled origin name) (refusal.NoSuchProcess line pick count) (refusal.NoSuchProcess other one of) h k = refl
-  refused_stage (certified program costs name) (refusal.Evidence shown) (refusal.Evidence other) h k = refl
-  refused_stage (traced name) (refusal.Evidence (evidence.BadLine line)) (refusal.Evidence (evidence.BadLine other)) h k = refl
+  refused_stage (decoded name) (refusal.Evidence (evidence.Image why)) (refusal.Evidence other) h k = refl
+  refused_stage (loaded name) (refusal.Evidence (evidence.Load why)) (refusal.Evidence other) h k = refl
+  refused_stage (migratable name) (refusal.Evidence (evidence.Load why)) (refusal.Evidence other) h k = refl
+  refused_stage (scheduled origin name) (refusal.Schedule why) (refusal.Schedule other) h k = refl
+  refused_stage (certified program costs name) (refusal.Evidence (evidence.Cert why)) (refusal.Evidence other) h k = refl
+  refused_stage (traced name) (refusal.Evidence (evidence.Trace (trace.BadLine line))) (refusal.Evidence other) h k = refl
   refused_stage (text_kept text) (refusal.Source fault pos) (refusal.Source other at) h k = refl
-  refused_stage (text_priced text said) (refusal.Costs fault) (refusal.Costs other) h k = refl
+  refused_stage (text_priced text said) (refusal.Costs why) (refusal.Costs other) h k = refl
   refused_stage (text_fitting text said processors) (refusal.TooFew need) (refusal.TooFew other) h k = refl
-  refused_stage (scannable name segments) (refusal.Scan fault) (refusal.Scan other) h k = refl
-  refused_stage (saved name) (refusal.Evidence shown) (refusal.Evidence other) h k = refl
-  refused_stage (saved_decoded name) (refusal.Evidence shown) (refusal.Evidence other) h k = refl
-  refused_stage (saved_loaded name) (refusal.Evidence shown) (refusal.Evidence other) h k = refl
-  refused_stage (resumable name) (refusal.Evidence evidence.NotSound) (refusal.Evidence evidence.NotSound) h k = refl
+  refused_stage (scannable name segments) (refusal.Scan why) (refusal.Scan other) h k = refl
+  refused_stage (saved name) (refusal.Evidence (evidence.Shot why)) (refusal.Evidence other) h k = refl
+  refused_stage (saved_decoded name) (refusal.Evidence (evidence.Image why)) (refusal.Evidence other) h k = refl
+  refused_stage (saved_loaded name) (refusal.Evidence (evidence.Load why)) (refusal.Evidence other) h k = refl
+  refused_stage (resumable name) (refusal.Evidence evidence.NotSound) (refusal.Evidence other) h k = refl
   refused_stage stage r other h k = absurd (search (h, k))
 
   -- where all stages pass none refuses

@@ -16,8 +16,9 @@ use Rattle.p3l_report.specs.declared.verdict.Refusal.TheVariants as refusal
 use Rattle.p3l_report.specs.declared.verdict.Verdict.{Verdict}
 use Rattle.p3l_report.specs.declared.verdict.Verdict.TheVariants as verdict
 use Rattle.p3l_report.specs.Status as status
-use Rattle.p3l_report.specs.Verdict.{ending_status, finish_status}
+use Rattle.p3l_report.specs.Verdict.{ending_status, finish_status, verdict_of}
 use Rattle.p3l_report.proofs.Statuses as statuses
+use Rattle.p3l_run.specs.declared.end.RunEnd.TheVariants as end
 use Rattle.p3l_run.specs.Feed.{Gives, closed_so}
 use Rattle.p3l_run.specs.Network.{Network, begun_with, width_of}
 use Rattle.p3l_run.specs.Run.{MayCome, MayEnd}
@@ -32,6 +33,7 @@ use Rattle.p3l_stream.specs.Given.{Closes, GivenCause, HasGiven}
 use Rattle.p3l_stream.specs.Items.{items_of}
 use Rattle.p3l_stream.specs.Seen.{Seen}
 use Rattle.p3l_trace.specs.declared.trace.Traced.{Traced}
+use Rattle.p3l_trace.specs.declared.trace.TraceRefusal.{TraceRefusal}
 use Rattle.p3l_trace.specs.declared.trace.TraceRefusal.TheVariants as refusals
 use Rattle.p3l_trace.specs.Text.{trace_format}
 use Rattle.p3l_trace.specs.Answers.{Answers, ReportsFirst}
@@ -49,10 +51,11 @@ use Rattle.p3l_program.proofs.SeenSteps.{GoesOnTo, at_end_left, ending_unstopped
 use Rattle.p3l_program.proofs.StageSteps.{passed_both, refused_after}
 
 -- a text that is read as no trace
-pub untraced : (files : Change Held) (name text : List ℕ) (line : ℕ) → HasText files.old trace_limit name text → IsCalm files →
-    ((t : Traced) → trace_format.fits t ≡ true → text ≡ trace_format.spell t → Answers text (Err (refusals.BadLine line)) (Ok t)) → ReportsFirst text (Err (refusals.BadLine line)) →
-    IsUntraced files name (verdict.Refused (refusal.Evidence (evidence.BadLine line)))
-untraced files name text line has calm only first =
+pub untraced : (files : Change Held) (name text : List ℕ) (why : TraceRefusal) → HasText files.old trace_limit name text → IsCalm files →
+    ((t : Traced) → trace_format.fits t ≡ true → text ≡ trace_format.spell t → Answers text (Err why) (Ok t)) → ReportsFirst text (Err why) →
+    IsUntraced files name (verdict_of (refusal.Evidence (evidence.Trace why)))
+untraced files name text refusals.NoMemory has calm only first = calm
+untraced files name text (refusals.BadLine line) has calm only first =
     let none : SpellsNoTrace text line = record { first = first; no_trace = λ t fits spelled. absurd (let z = only t fits spelled in cc) } in
     inr (record { line = line; is = refl; none = record { text = text; has = has; none = none }; calm = calm })
 
@@ -102,10 +105,10 @@ ends_check w build name finish.Done stats h = record {
   has = h.has;
   begun = inr (record { close = h.checked.close; agrees = h.checked.agrees; begun = record { written = holds_line h.t; more = []; put = h.checked.put; text_is = append-nil (holds_line h.t) } });
 }
-ends_check w build name (finish.Stream e) stats h = record { n = h.n; t = h.t; has = h.has; begun = inl h.checked.out }
+ends_check w build name (finish.Run (end.Stream e)) stats h = record { n = h.n; t = h.t; has = h.has; begun = inl h.checked.out }
 ends_check w build name (finish.Differs line) stats h = record { n = h.n; t = h.t; has = h.has; begun = inl h.checked.out }
-ends_check w build name (finish.Stopped fired idle) stats h = absurd h.checked
-ends_check w build name (finish.Trapped item kind home) stats h = absurd h.checked
+ends_check w build name (finish.Run (end.Stopped fired idle)) stats h = absurd h.checked
+ends_check w build name (finish.Run (end.Trapped item kind home)) stats h = absurd h.checked
 
 -- how the count of the input goes, where it was not refused as far as it was requested
 unrefused_calm : (close : Option Ending) (before now : ℕ) → IsUnrefused close → GivenCause (closed_so close) before now → now ≡ before
@@ -114,7 +117,7 @@ unrefused_calm close before now (inr end) cause = subst (λ c. GivenCause (close
 
 pub check_calm : (w : World) (build : Build) (name : List ℕ) (f : Finish) (stats : Option Stats) (k : ℕ) → EndsTrace w build name f stats → finish_status f ≡ k → (k ≡ status.evidence → ⊥) → (k ≡ status.read → ⊥) → w.input.now ≡ w.input.before
 check_calm w build name finish.Done stats k h is other read = unrefused_calm h.checked.close w.input.before w.input.now h.checked.unrefused h.checked.agrees.gives.cause
-check_calm w build name (finish.Stream e) stats k h is other read = by e (λ same. read (sym is ∙ ap ending_status same)) h.checked.agrees.gives.cause
+check_calm w build name (finish.Run (end.Stream e)) stats k h is other read = by e (λ same. read (sym is ∙ ap ending_status same)) h.checked.agrees.gives.cause
   where
     by : (e : Ending) → (e ≡ ending.ReadFault → ⊥) → GivenCause (closed_so (Some e)) w.input.before w.input.now → w.input.now ≡ w.input.before
     by ending.End unlike cause = cause
@@ -124,23 +127,23 @@ check_calm w build name (finish.Stream e) stats k h is other read = by e (λ sam
     by ending.ReadFault unlike cause = absurd (unlike refl)
     by ending.TooLong unlike cause = cause
 check_calm w build name (finish.Differs line) stats k h is other read = absurd (other (sym is))
-check_calm w build name (finish.Stopped fired idle) stats k h is other read = absurd h.checked
-check_calm w build name (finish.Trapped item kind home) stats k h is other read = absurd h.checked
+check_calm w build name (finish.Run (end.Stopped fired idle)) stats k h is other read = absurd h.checked
+check_calm w build name (finish.Run (end.Trapped item kind home)) stats k h is other read = absurd h.checked
 
 pub check_read : (w : World) (build : Build) (name : List ℕ) (f : Finish) (stats : Option Stats) → EndsTrace w build name f stats → finish_status f ≡ status.read → HasRisen w.input
 check_read w build name finish.Done stats h is = absurd (omega arith)
-check_read w build name (finish.Stream e) stats h is = subst (λ k. GivenCause (closed_so (Some k)) w.input.before w.input.now) (statuses.read_is e is) h.checked.agrees.gives.cause
+check_read w build name (finish.Run (end.Stream e)) stats h is = subst (λ k. GivenCause (closed_so (Some k)) w.input.before w.input.now) (statuses.read_is e is) h.checked.agrees.gives.cause
 check_read w build name (finish.Differs line) stats h is = absurd (omega arith)
-check_read w build name (finish.Stopped fired idle) stats h is = absurd h.checked
-check_read w build name (finish.Trapped item kind home) stats h is = absurd h.checked
+check_read w build name (finish.Run (end.Stopped fired idle)) stats h is = absurd h.checked
+check_read w build name (finish.Run (end.Trapped item kind home)) stats h is = absurd h.checked
 
 -- no check is stopped
 pub check_unstopped : (w : World) (build : Build) (name : List ℕ) (f : Finish) (stats : Option Stats) → EndsTrace w build name f stats → finish_status f ≡ status.stopped → ⊥
 check_unstopped w build name finish.Done stats h is = absurd (omega arith)
-check_unstopped w build name (finish.Stream e) stats h is = ending_unstopped e is
+check_unstopped w build name (finish.Run (end.Stream e)) stats h is = ending_unstopped e is
 check_unstopped w build name (finish.Differs line) stats h is = absurd (omega arith)
-check_unstopped w build name (finish.Stopped fired idle) stats h is = absurd h.checked
-check_unstopped w build name (finish.Trapped item kind home) stats h is = absurd h.checked
+check_unstopped w build name (finish.Run (end.Stopped fired idle)) stats h is = absurd h.checked
+check_unstopped w build name (finish.Run (end.Trapped item kind home)) stats h is = absurd h.checked
 
 -- a stream of these items and later ones, which gave the former where items were requested before the picks, comes to its end just where it ended
 module _ (n : Network) (items later : List (List ℤ)) where
@@ -199,7 +202,7 @@ check_status w build name rest finish.Done stats known calm h =
         agrees_seen h.n h.t rest h.checked.close _ _ _ _ known calm.input on,
       );
     }
-check_status w build name rest (finish.Stream e) stats known calm h =
+check_status w build name rest (finish.Run (end.Stream e)) stats known calm h =
     let on = h.checked.agrees in
     record {
       n = h.n;
@@ -216,8 +219,8 @@ check_status w build name rest (finish.Differs line) stats known calm h =
       has = h.has;
       status_is = inl (refl, (line, subst (λ (i : Items). DiffersAt h.n.tree h.n.leaf h.n.net (begun_with h.n i.items) h.t line) (sym to.seen) (on.holds to.later to.may_come)));
     }
-check_status w build name rest (finish.Stopped fired idle) stats known calm h = absurd h.checked
-check_status w build name rest (finish.Trapped item kind home) stats known calm h = absurd h.checked
+check_status w build name rest (finish.Run (end.Stopped fired idle)) stats known calm h = absurd h.checked
+check_status w build name rest (finish.Run (end.Trapped item kind home)) stats known calm h = absurd h.checked
 
 -- all items of an input go on from those given
 pub record GoesOnAll (n : Network) (close : Option Ending) (items : List (List ℤ)) (rest : List ℕ) : Type 0 where
@@ -281,7 +284,7 @@ check_whole w build name rest taken finish.Done stats put input h e = record {
   agrees = agreed_all w e.n e.t rest input e.checked;
   taken_is = put (holds_line e.t) e.checked.put;
 }
-check_whole w build name rest taken (finish.Stream k) stats put input h e = absurd (e.checked.other (statuses.done_is k h))
+check_whole w build name rest taken (finish.Run (end.Stream k)) stats put input h e = absurd (e.checked.other (statuses.done_is k h))
 check_whole w build name rest taken (finish.Differs line) stats put input h e = absurd (omega arith)
-check_whole w build name rest taken (finish.Stopped fired idle) stats put input h e = absurd e.checked
-check_whole w build name rest taken (finish.Trapped item kind home) stats put input h e = absurd e.checked
+check_whole w build name rest taken (finish.Run (end.Stopped fired idle)) stats put input h e = absurd e.checked
+check_whole w build name rest taken (finish.Run (end.Trapped item kind home)) stats put input h e = absurd e.checked

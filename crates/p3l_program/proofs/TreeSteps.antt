@@ -1,41 +1,41 @@
 -- From an accepted text with its tree to the stages of its costs and its counts.
-use Rattle.std.proofs.Common.{◌≡◌, ℕ, List, [], ◌∷◌, ◌++◌, Option, Some, None, ap, ◌∙◌, inl, inr, subst}
+use Rattle.std.proofs.Common.{◌≡◌, ℕ, List, [], ◌∷◌, ◌++◌, ◌⊎◌, Option, Some, None, refl, ap, ◌∙◌, inl, inr, subst, sym}
 use Rattle.std.specs.declared.result.Result.TheVariants.{Ok, Err}
 use Rattle.p3l_io.specs.Content.{Held}
 use Rattle.p3l_skel.specs.declared.tree.Tree.{Tree}
 use Rattle.p3l_skel.specs.Numbers.{Fits}
 use Rattle.p3l_cost.specs.declared.costs.Costs.{Costs}
+use Rattle.p3l_cost.specs.declared.refusal.CostRefusal.{CostRefusal}
 use Rattle.p3l_cost.specs.declared.refusal.CostRefusal.TheVariants as costs
-use Rattle.p3l_cost.specs.File.{IsRead, Says, costs_in}
+use Rattle.p3l_cost.specs.File.{Says, costs_in}
 use Rattle.p3l_alloc.specs.Chosen.{IsShort}
 use Rattle.p3l_opts.specs.declared.command.Build.{Build}
-use Rattle.p3l_report.specs.declared.cost_fault.CostFault.{CostFault}
-use Rattle.p3l_report.specs.declared.cost_fault.CostFault.TheVariants as fault
 use Rattle.p3l_report.specs.declared.verdict.Refusal.{Refusal}
 use Rattle.p3l_report.specs.declared.verdict.Refusal.TheVariants as refusal
 use Rattle.p3l_report.specs.declared.verdict.Verdict.{Verdict}
 use Rattle.p3l_report.specs.declared.verdict.Verdict.TheVariants as verdict
 use Rattle.p3l_check.specs.Resolving.{ResolvedTree}
-use Rattle.p3l_program.specs.Plan.{AreSaid, HasCostText, HasCounts, IsPriced, refusal_of}
+use Rattle.p3l_program.specs.Plan.{AreSaid, HasCostText, HasCounts, IsPriced, IsUnsaid}
 use Rattle.p3l_program.specs.File.{HasText, text_limit}
-use Rattle.p3l_program.specs.Load.{IsCostless, IsNotLoaded}
+use Rattle.p3l_program.specs.Load.{IsCostless, IsNotLoaded, IsUnchosen, IsUnfit}
 use Rattle.p3l_program.specs.Source.{ComesToTree}
 use Rattle.p3l_program.specs.Stage.{AllPass, FilesCause, IsRefusedBy, Stage, build_stages, cost_stages, fitting, program_stages}
 use Rattle.p3l_program.specs.World.{Change, IsCalm}
 use Rattle.p3l_program.proofs.StageSteps.{passed_both, refused_after}
 
 -- a text that says costs is not refused
-pub said_once : (tree : Tree) (said : List ℕ) (cs : Costs) (f : CostFault) → Says tree said (Ok cs) → IsRead tree said (Err (refusal_of f)) → ⊥
-said_once tree said cs fault.NotToml says none = none says.document says.is
-said_once tree said cs (fault.BadKey key) says none = two says none
+pub said_once : (tree : Tree) (said : List ℕ) (cs : Costs) (why : CostRefusal) → Says tree said (Ok cs) → IsUnsaid tree said why → ⊥
+said_once tree said cs costs.NotToml says none = none.read says.document says.is
+said_once tree said cs (costs.BadKey key) says none = two says none.read
   where
     two : Says tree said (Ok cs) → Says tree said (Err (costs.BadKey key)) → ⊥
     two a b = let p = a.is.parsed in let q = b.is.parsed in let one : a.document ≡ b.document = cc in let x = a.says in let y = ap (costs_in tree) one ∙ b.says in absurd cc
-said_once tree said cs (fault.BadValue key) says none = two says none
+said_once tree said cs (costs.BadValue key) says none = two says none.read
   where
     two : Says tree said (Ok cs) → Says tree said (Err (costs.BadValue key)) → ⊥
     two a b = let p = a.is.parsed in let q = b.is.parsed in let one : a.document ≡ b.document = cc in let x = a.says in let y = ap (costs_in tree) one ∙ b.says in absurd cc
-said_once tree said cs (fault.Missing key) says none = two says none
+said_once tree said cs costs.NoMemory says none = none.named refl
+said_once tree said cs (costs.Missing key) says none = two says none.read
   where
     two : Says tree said (Ok cs) → Says tree said (Err (costs.Missing key)) → ⊥
     two a b = let p = a.is.parsed in let q = b.is.parsed in let one : a.document ≡ b.document = cc in let x = a.says in let y = ap (costs_in tree) one ∙ b.says in absurd cc
@@ -51,7 +51,7 @@ module _ (files : Change Held) (name : List ℕ) (r : ResolvedTree) (tree : Tree
   costless_some : (costs : List ℕ) (more : List Stage) (refused : Refusal) → IsCostless files (Some costs) tree (verdict.Refused refused) →
       IsRefusedBy files (cost_stages name (Some costs) ++ more) refused × FilesCause refused files
   costless_some costs more refused (inl h) = (inl h.0, h.1)
-  costless_some costs more (refusal.Costs f) (inr h) = (
+  costless_some costs more (refusal.Costs why) (inr h) = (
     inr (
       (h.said, h.has),
       inl (record {
@@ -63,15 +63,15 @@ module _ (files : Change Held) (name : List ℕ) (r : ResolvedTree) (tree : Tree
           r = r;
           accepted = comes.accepted;
           refused = here;
-          never = λ other cs p. said_once r.tree h.said cs f (subst (λ t. Says t.tree h.said (Ok cs)) (comes.only other p.accepted) p.costs) here;
+          never = λ other cs p. said_once r.tree h.said cs why (subst (λ t. Says t.tree h.said (Ok cs)) (comes.only other p.accepted) p.costs) here;
         };
       }),
     ),
     h.calm,
   )
     where
-      here : IsRead r.tree h.said (Err (refusal_of f))
-      here = subst (λ t. IsRead t h.said (Err (refusal_of f))) comes.tree_is h.no_costs
+      here : IsUnsaid r.tree h.said why
+      here = subst (λ t. IsUnsaid t h.said why) comes.tree_is h.no_costs
   costless_some costs more refused (inr h) = absurd (h.no_costs)
 
   -- where no costs are loaded their stages don't pass, whatever stages come after
@@ -116,6 +116,25 @@ module _ (files : Change Held) (build : Build) (r : ResolvedTree) (tree : Tree) 
               }))),
           calm,
         )
+
+  not_chosen : (v : Verdict) → IsCostless files build.costs tree v ⊎ IsUnfit files build.costs tree build.processors v → IsNotLoaded files (build_stages build) v
+  not_chosen v (inl h) = costless files build.program r tree text has comes build.costs (fitting build ∷ []) v h
+  not_chosen v (inr h) = subst (λ v. IsNotLoaded files (build_stages build) v) (sym h.verdict_is) (too_few h.loads.said h.loads.says h.cs h.loads.costs h.need h.short h.calm)
+
+  -- where no counts are chosen the stages of a build don't pass
+  pub unchosen : (v : Verdict) → IsUnchosen files build.costs tree build.processors v → IsNotLoaded files (build_stages build) v
+  unchosen (verdict.Refused refused) h = not_chosen (verdict.Refused refused) h
+  unchosen (verdict.Ended finish stats) h = not_chosen (verdict.Ended finish stats) h
+  unchosen verdict.WriteFault h = not_chosen verdict.WriteFault h
+  unchosen verdict.NoMemory h = h
+
+-- costs that aren't loaded are a cause of their own
+pub costless_unchosen : (files : Change Held) (costs : Option (List ℕ)) (tree : Tree) (processors : ℕ) (v : Verdict) → IsCostless files costs tree v → IsUnchosen files costs tree processors v
+costless_unchosen files costs tree processors (verdict.Refused refused) h = inl h
+costless_unchosen files costs tree processors (verdict.Ended finish stats) h = inl h
+costless_unchosen files costs tree processors verdict.WriteFault h = inl h
+costless_unchosen files None tree processors verdict.NoMemory h = h
+costless_unchosen files (Some name) tree processors verdict.NoMemory h = h
 
 module _ (files : Change Held) (build : Build) (r : ResolvedTree) (cs : Costs) (counts : List ℕ) (has : HasCounts files.old build r cs counts) where
   priced_pass : (costs said : Option (List ℕ)) → HasCostText files.old costs said → IsPriced has.text said r cs → AllPass files (cost_stages build.program costs)

@@ -5,6 +5,7 @@ use Rattle.p3l_io.specs.Content.{Held}
 use Rattle.p3l_opts.specs.declared.command.Command.{Command}
 use Rattle.p3l_opts.specs.Command.{Spells}
 use Rattle.p3l_report.specs.declared.stats.Stats.{Stats}
+use Rattle.p3l_report.specs.declared.stats.Stats.TheVariants.{Scheduled}
 use Rattle.p3l_report.specs.declared.verdict.Finish.{Finish}
 use Rattle.p3l_report.specs.declared.verdict.Refusal.{Refusal}
 use Rattle.p3l_report.specs.declared.verdict.Refusal.TheVariants as refusal
@@ -20,7 +21,6 @@ use Rattle.p3l_program.specs.Saved.{AreSaved, HasOneFailed, KeepsBut, KeepsFirst
 use Rattle.p3l_program.specs.Stage.{IsRefusedBy, Stage, readable}
 use Rattle.p3l_program.specs.File.{IsTooLong}
 use Rattle.p3l_run.specs.declared.end.RunStats.{RunStats}
-use Rattle.p3l_program.specs.Verdict.{run_stats}
 use Rattle.p3l_program.specs.Wants.{SavesLong, Wants}
 use Rattle.p3l_program.specs.World.{Change, HasRisen, IsStill, IsUntouched, World}
 use Rattle.p3l_program.specs.Origin.{Running}
@@ -162,5 +162,5 @@ pub record HasTooLong (words : List Text) (files : Option Held) : Type 0 where
 pub record Reports (w : World) (run : Running) (said : List ℕ) (err : Option (List ℕ)) : Type 0 where
   pub numbers : RunStats
   pub more : List ℕ
-  pub line : err ≡ Some (said ++ (stats_line (run_stats numbers) ++ more))
+  pub line : err ≡ Some (said ++ (stats_line (Scheduled numbers) ++ more))
   pub emits : Emits w run.origin run.schedule run.trace numbers

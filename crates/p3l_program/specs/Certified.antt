@@ -1,5 +1,5 @@
 -- Certificates of files, which hold for a program and its costs or don't.
-use Rattle.std.specs.Prelude.{◌≡◌, ℕ, List, Err, Option, Some, None, ◌⊎◌, true}
+use Rattle.std.specs.Prelude.{◌≡◌, ◌≢◌, ℕ, List, Err, Option, ◌⊎◌, true}
 use Rattle.p3l_format.specs.FirstLine.{IsFirstBadLine}
 use Rattle.p3l_io.specs.Content.{Held}
 use Rattle.p3l_skel.specs.declared.tree.Tree.{Tree}
@@ -7,14 +7,8 @@ use Rattle.p3l_cost.specs.declared.costs.Costs.{Costs}
 use Rattle.p3l_cert.specs.declared.cert.Cert.{Cert}
 use Rattle.p3l_cert.specs.declared.cert.CertRefusal.{CertRefusal}
 use Rattle.p3l_cert.specs.declared.cert.CertRefusal.TheVariants as refusals
-use Rattle.p3l_cert.specs.declared.cert.Claim.{Claim as CertClaim}
-use Rattle.p3l_cert.specs.declared.cert.Claim.TheVariants as claims
 use Rattle.p3l_cert.specs.Checker.{CertHolds, IsAnswer}
 use Rattle.p3l_cert.specs.Text.{cert_format}
-use Rattle.p3l_report.specs.declared.evidence.Claim.{Claim}
-use Rattle.p3l_report.specs.declared.evidence.Claim.TheVariants as reported
-use Rattle.p3l_report.specs.declared.evidence.Evidence.{Evidence}
-use Rattle.p3l_report.specs.declared.evidence.Evidence.TheVariants as evidence
 use Rattle.p3l_check.specs.Resolving.{ResolvedTree}
 use Rattle.p3l_program.specs.Plan.{HasCostText, IsPriced}
 use Rattle.p3l_program.specs.File.{HasText, text_limit}
@@ -49,38 +43,22 @@ pub record IsRefuted (tree : Tree) (costs : Costs) (text : List ℕ) (refused : 
   pub why : IsNoText text refused ⊎ FailsTest tree costs text refused
   pub never : (cert : Cert) → IsCertOf tree costs text cert → ⊥
 
--- how it is reported why a certificate is refused; running out of memory is no evidence
-abbrev pub claim_of : CertClaim → Claim
-claim_of claims.Counts = reported.Counts
-claim_of claims.Service = reported.Service
-claim_of claims.Used = reported.Used
-claim_of claims.Fits = reported.Fits
-claim_of claims.Least = reported.Least
-
-abbrev pub evidence_of : CertRefusal → Option Evidence
-evidence_of (refusals.RowWrong row kept found) = Some (evidence.RowWrong row kept found)
-evidence_of (refusals.RowMissing row node bound cap) = Some (evidence.RowMissing row node bound cap)
-evidence_of (refusals.ClaimWrong claim) = Some (evidence.ClaimWrong (claim_of claim))
-evidence_of (refusals.BadText line) = Some (evidence.BadText line)
-evidence_of refusals.NoMemory = None
-
--- a text is refused with this evidence
-pub record IsNoCert (tree : Tree) (costs : Costs) (text : List ℕ) (shown : Evidence) : Type 0 where
-  pub refused : CertRefusal
-  pub reported_so : evidence_of refused ≡ Some shown
-  pub refuted : IsRefuted tree costs text refused
+-- a text is refused for this reason; running out of memory is none
+pub record IsNoCert (tree : Tree) (costs : Costs) (text : List ℕ) (why : CertRefusal) : Type 0 where
+  pub refuted : IsRefuted tree costs text why
+  pub named : why ≢ refusals.NoMemory
 
 -- a program with its costs, and a text of a certificate of them
 pub record IsCertified (text : List ℕ) (said : Option (List ℕ)) (written : List ℕ) (r : ResolvedTree) (cs : Costs) (cert : Cert) : Type 0 where
   pub priced : IsPriced text said r cs
   pub is : IsCertOf r.tree cs written cert
 
--- a text is no certificate of the program and its costs, for this evidence
-pub record IsUncertified (text : List ℕ) (said : Option (List ℕ)) (written : List ℕ) (shown : Evidence) : Type 0 where
+-- a text is no certificate of the program and its costs, for this reason
+pub record IsUncertified (text : List ℕ) (said : Option (List ℕ)) (written : List ℕ) (why : CertRefusal) : Type 0 where
   pub r : ResolvedTree
   pub cs : Costs
   pub priced : IsPriced text said r cs
-  pub no_cert : IsNoCert r.tree cs written shown
+  pub no_cert : IsNoCert r.tree cs written why
   pub never : (other : ResolvedTree) (others : Costs) (cert : Cert) → IsCertified text said written other others cert → ⊥
 
 -- the file of the last name has a certificate of the program and the costs of the others
@@ -93,12 +71,12 @@ pub record HasCert (files : Option Held) (program : List ℕ) (costs : Option (L
   pub held : HasText files cert_limit name written
   pub certified : IsCertified text said written r cs cert
 
--- it has none, for this evidence
-pub record HasNoCert (files : Option Held) (program : List ℕ) (costs : Option (List ℕ)) (name : List ℕ) (shown : Evidence) : Type 0 where
+-- it has none, for this reason
+pub record HasNoCert (files : Option Held) (program : List ℕ) (costs : Option (List ℕ)) (name : List ℕ) (why : CertRefusal) : Type 0 where
   pub text : List ℕ
   pub has : HasText files text_limit program text
   pub said : Option (List ℕ)
   pub says : HasCostText files costs said
   pub written : List ℕ
   pub held : HasText files cert_limit name written
-  pub refused : IsUncertified text said written shown
+  pub refused : IsUncertified text said written why

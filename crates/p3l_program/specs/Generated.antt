@@ -11,10 +11,11 @@ use Rattle.p3l_opts.specs.declared.command.Sched.{Sched}
 use Rattle.p3l_opts.specs.declared.command.Sched.TheVariants as sched
 use Rattle.p3l_report.specs.declared.stats.Stats.{Stats}
 use Rattle.p3l_report.specs.declared.verdict.Finish.{Finish}
+use Rattle.p3l_report.specs.declared.verdict.Finish.TheVariants.{Run}
 use Rattle.p3l_report.specs.declared.verdict.Verdict.{Verdict}
 use Rattle.p3l_report.specs.declared.verdict.Verdict.TheVariants as verdict
 use Rattle.p3l_report.specs.Status as status
-use Rattle.p3l_report.specs.Verdict.{finish_status}
+use Rattle.p3l_report.specs.Verdict.{end_status}
 use Rattle.p3l_run.specs.declared.end.RunEnd.{RunEnd}
 use Rattle.p3l_run.specs.declared.end.RunEnd.TheVariants as ends
 use Rattle.p3l_run.specs.declared.end.RunStats.{RunStats}
@@ -36,7 +37,6 @@ use Rattle.p3l_program.specs.Load.{IsNotLoaded}
 use Rattle.p3l_program.specs.Saved.{AreSaved, HasOneFailed, KeepsBut, KeepsFirst, names_of}
 use Rattle.p3l_program.specs.Stage.{Stage, text_fitting, text_kept, text_priced}
 use Rattle.p3l_program.specs.Text.{BeginsText}
-use Rattle.p3l_program.specs.Verdict.{run_finish}
 use Rattle.p3l_program.specs.World.{Change, HasRisen, IsCalm, IsStill, World, world}
 
 -- what is requested: the number of the texts, for this number of processors, with this number of items, under this schedule, and what the names of
@@ -137,7 +137,7 @@ IsGenText g text = (f : RunEnd) × IsGenerated g f text
 -- the texts were saved where that is requested, and run to this end, and its text was written; nothing was taken
 pub record EndsGen (w : World) (g : Gen) (f : Finish) (stats : Option Stats) : Type 0 where
   pub end : RunEnd
-  pub finish_is : f ≡ run_finish end
+  pub finish_is : f ≡ Run end
   pub stats_are : stats ≡ None
   pub text : List ℕ
   pub is : IsGenerated g end text
@@ -158,7 +158,7 @@ pub record IsGenStatus (g : Gen) (k : ℕ) : Type 0 where
   pub end : RunEnd
   pub text : List ℕ
   pub is : IsGenerated g end text
-  pub status_is : k ≡ finish_status (run_finish end)
+  pub status_is : k ≡ end_status end
   pub unstopped : k ≢ status.stopped
 
 -- the texts are saved where that is requested, and then run
@@ -178,7 +178,7 @@ gen_behavior g = record {
 
 -- how the writing of the text of an end goes
 abbrev pub IsLineOf : Change (List ℕ) → RunEnd → List ℕ → Verdict → Type 0
-IsLineOf out f text (verdict.Ended f' stats) = (f' ≡ run_finish f) × (stats ≡ None) × HasPut out.old out.new text × IsCalm out
+IsLineOf out f text (verdict.Ended f' stats) = (f' ≡ Run f) × (stats ≡ None) × HasPut out.old out.new text × IsCalm out
 IsLineOf out f text verdict.WriteFault = HasBegun out.old out.new text × HasRisen out
 IsLineOf out f text verdict.NoMemory = HasBegun out.old out.new text
 IsLineOf out f text (verdict.Refused refused) = ⊥

@@ -1,15 +1,13 @@
 -- Images of files, and which of them can be run.
-use Rattle.std.specs.Prelude.{◌≡◌, ℕ, List, Result, Err, Option}
+use Rattle.std.specs.Prelude.{◌≡◌, ◌≢◌, ℕ, List, Result, Err, Option}
 use Rattle.p3l_image.specs.declared.image.Image.{Image}
 use Rattle.p3l_image.specs.declared.image.ImageRefusal.{ImageRefusal}
-use Rattle.p3l_image.specs.declared.image.ImageRefusal.TheVariants as image
 use Rattle.p3l_image.specs.Image.{IsSpelling, image_in}
 use Rattle.p3l_image.specs.Refusal.{answer_of}
 use Rattle.p3l_io.specs.Content.{Held}
+use Rattle.p3l_load.specs.declared.loaded.LoadRefusal.{LoadRefusal}
 use Rattle.p3l_load.specs.declared.loaded.LoadRefusal.TheVariants as load
 use Rattle.p3l_load.specs.Load.{IsRunnable, Refuses, RefusesMigration, migrated_of}
-use Rattle.p3l_report.specs.declared.evidence.Evidence.{Evidence}
-use Rattle.p3l_report.specs.declared.evidence.Evidence.TheVariants as evidence
 use Rattle.p3l_program.specs.File.{HasText}
 
 -- the most bytes of a file of an image
@@ -24,32 +22,9 @@ IsImage i bytes = IsSpelling i bytes
 abbrev pub read_image : List ℕ → Result Image ImageRefusal
 read_image bytes = answer_of bytes (image_in bytes)
 
--- why bytes spell no image
-abbrev pub IsMisspelled : Evidence → List ℕ → Type 0
-IsMisspelled evidence.BadMagic bytes = read_image bytes ≡ Err image.BadMagic
-IsMisspelled (evidence.Version version) bytes = read_image bytes ≡ Err (image.Version version)
-IsMisspelled (evidence.Short place) bytes = read_image bytes ≡ Err (image.Short place)
-IsMisspelled (evidence.BadField place) bytes = read_image bytes ≡ Err (image.BadField place)
-IsMisspelled (evidence.TrailingBytes place) bytes = read_image bytes ≡ Err (image.TrailingBytes place)
-IsMisspelled _ bytes = ⊥
-
--- why an image can't be run: its tree, its counts or its codes are wrong; or else this code is the first that isn't safe; or else its
--- net is not that of its tree
-abbrev pub IsBroken : Evidence → Image → Type 0
-IsBroken evidence.TreeWrong i = Refuses i load.TreeWrong
-IsBroken (evidence.CodeUnsafe number) i = Refuses i (load.CodeUnsafe number)
-IsBroken evidence.NotLinked i = Refuses i load.NotLinked
-IsBroken _ i = ⊥
-
--- why it can't be migrated: the same, but that its net doesn't matter
-abbrev pub IsUnfit : Evidence → Image → Type 0
-IsUnfit evidence.TreeWrong i = RefusesMigration i load.TreeWrong
-IsUnfit (evidence.CodeUnsafe number) i = RefusesMigration i (load.CodeUnsafe number)
-IsUnfit _ i = ⊥
-
 -- the bytes spell no image, for this reason
-pub record IsNoImage (e : Evidence) (bytes : List ℕ) : Type 0 where
-  pub misspelled : IsMisspelled e bytes
+pub record IsNoImage (why : ImageRefusal) (bytes : List ℕ) : Type 0 where
+  pub misspelled : read_image bytes ≡ Err why
   pub never : (i : Image) → IsImage i bytes → ⊥
 
 -- they spell an image that can be run
@@ -58,10 +33,11 @@ pub record IsRunnableImage (i : Image) (bytes : List ℕ) : Type 0 where
   pub runs : IsRunnable i
 
 -- they spell one that can't, for this reason
-pub record IsBrokenImage (e : Evidence) (bytes : List ℕ) : Type 0 where
+pub record IsBrokenImage (why : LoadRefusal) (bytes : List ℕ) : Type 0 where
   pub i : Image
   pub is : IsImage i bytes
-  pub broken : IsBroken e i
+  pub broken : Refuses i why
+  pub named : why ≢ load.NoMemory
   pub never : (other : Image) → IsRunnableImage other bytes → ⊥
 
 -- they spell an image that can be run once its net is linked anew
@@ -70,10 +46,11 @@ pub record IsMigratable (i : Image) (bytes : List ℕ) : Type 0 where
   pub runs : IsRunnable (migrated_of i)
 
 -- they spell one that can't be, for this reason
-pub record IsUnmigratable (e : Evidence) (bytes : List ℕ) : Type 0 where
+pub record IsUnmigratable (why : LoadRefusal) (bytes : List ℕ) : Type 0 where
   pub i : Image
   pub is : IsImage i bytes
-  pub unfit : IsUnfit e i
+  pub unfit : RefusesMigration i why
+  pub named : why ≢ load.NoMemory
   pub never : (other : Image) → IsMigratable other bytes → ⊥
 
 -- the file of this name has bytes within the limit, and they are such

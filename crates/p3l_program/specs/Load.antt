@@ -1,18 +1,15 @@
 -- What is loaded from files, and why nothing is.
-use Rattle.std.specs.Prelude.{◌≡◌, ℕ, ◌≤◌, List, Err, Option, Some, None, ◌⊎◌}
+use Rattle.std.specs.Prelude.{◌≡◌, ℕ, ◌≤◌, List, Option, Some, None, ◌⊎◌}
 use Rattle.p3l_io.specs.Content.{Held}
 use Rattle.p3l_skel.specs.declared.tree.Tree.{Tree}
 use Rattle.p3l_cost.specs.declared.costs.Costs.{Costs}
-use Rattle.p3l_cost.specs.declared.refusal.CostRefusal.{CostRefusal}
-use Rattle.p3l_cost.specs.declared.refusal.CostRefusal.TheVariants as costs
 use Rattle.p3l_cost.specs.Costs.{AreCostsOf}
-use Rattle.p3l_cost.specs.File.{IsRead}
+use Rattle.p3l_alloc.specs.Chosen.{IsShort}
 use Rattle.p3l_model.specs.Service.{service}
 use Rattle.p3l_skel.specs.Counts.{HasLawfulCounts}
 use Rattle.p3l_skel.specs.Numbers.{procs}
 use Rattle.p3l_opts.specs.declared.command.Build.{Build}
 use Rattle.p3l_run.specs.Network.{Network}
-use Rattle.p3l_report.specs.declared.cost_fault.CostFault.TheVariants as fault
 use Rattle.p3l_report.specs.declared.verdict.Refusal.{Refusal}
 use Rattle.p3l_report.specs.declared.verdict.Refusal.TheVariants as refusal
 use Rattle.p3l_report.specs.declared.verdict.Verdict.{Verdict}
@@ -23,7 +20,7 @@ use Rattle.p3l_program.specs.declared.file.FileRefusal.{FileRefusal}
 use Rattle.p3l_program.specs.declared.file.FileRefusal.TheVariants as file
 use Rattle.p3l_program.specs.declared.plan.Allotted.{Allotted}
 use Rattle.p3l_program.specs.Origin.{Origin}
-use Rattle.p3l_program.specs.Plan.{AreSaid, ComesTo, HasCostText, HaveTexts, IsAllotted, IsCompiled, IsNetworkOf, Texts, refusal_of}
+use Rattle.p3l_program.specs.Plan.{AreSaid, ComesTo, HasCostText, HaveTexts, IsAllotted, IsCompiled, IsNetworkOf, IsUnsaid, Texts}
 use Rattle.p3l_program.specs.File.{HasText, IsTooLong, text_limit}
 use Rattle.p3l_program.specs.Stage.{FilesCause, IsRefusedBy, Refuses, Stage, readable, AllPass, origin_stages}
 use Rattle.p3l_program.specs.World.{Change, HasFailed, IsCalm}
@@ -51,14 +48,6 @@ pub record AcceptsText (text : List ℕ) (accepted : Accepted) : Type 0 where
   pub r : ResolvedTree
   pub comes : ComesTo text r accepted
 
--- the verdict of costs that are refused
-abbrev pub cost_verdict : CostRefusal → Verdict
-cost_verdict costs.NotToml = verdict.Refused (refusal.Costs fault.NotToml)
-cost_verdict (costs.BadKey key) = verdict.Refused (refusal.Costs (fault.BadKey key))
-cost_verdict (costs.BadValue key) = verdict.Refused (refusal.Costs (fault.BadValue key))
-cost_verdict (costs.Missing name) = verdict.Refused (refusal.Costs (fault.Missing name))
-cost_verdict costs.NoMemory = verdict.NoMemory
-
 -- the program of a file, with its codes
 pub record IsProgram (files : Option Held) (name : List ℕ) (r : ResolvedTree) (accepted : Accepted) : Type 0 where
   pub text : List ℕ
@@ -78,7 +67,7 @@ pub record LoadsCosts (files : Option Held) (costs_file : Option (List ℕ)) (tr
 
 -- a text says no costs of a tree
 abbrev pub IsNoCosts : Tree → List ℕ → Refusal → Type 0
-IsNoCosts tree said (refusal.Costs fault) = IsRead tree said (Err (refusal_of fault))
+IsNoCosts tree said (refusal.Costs why) = IsUnsaid tree said why
 IsNoCosts tree said refused = ⊥
 
 -- why no costs are loaded
@@ -94,6 +83,20 @@ IsCostless files (Some name) tree (verdict.Refused refused) =
     (Refuses files (readable text_limit name) refused × FilesCause refused files) ⊎ HasUnsaidCosts files name tree refused
 IsCostless files costs tree verdict.NoMemory = IsCalm files
 IsCostless files costs tree v = ⊥
+
+-- no counts of a tree, whose costs are loaded, fit this number of processors
+pub record IsUnfit (files : Change Held) (costs_file : Option (List ℕ)) (tree : Tree) (processors : ℕ) (v : Verdict) : Type 0 where
+  pub need : ℕ
+  pub verdict_is : v ≡ verdict.Refused (refusal.TooFew need)
+  pub cs : Costs
+  pub loads : LoadsCosts files.old costs_file tree cs
+  pub short : IsShort tree processors need
+  pub calm : IsCalm files
+
+-- why no counts are chosen for a tree
+abbrev pub IsUnchosen : Change Held → Option (List ℕ) → Tree → (processors : ℕ) → Verdict → Type 0
+IsUnchosen files costs tree processors verdict.NoMemory = IsCalm files
+IsUnchosen files costs tree processors v = IsCostless files costs tree v ⊎ IsUnfit files costs tree processors v
 
 -- a program with its costs and the counts that are chosen for it
 pub record IsLoaded (files : Option Held) (build : Build) (r : ResolvedTree) (loaded : Allotted) : Type 0 where

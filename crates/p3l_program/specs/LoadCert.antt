@@ -1,5 +1,5 @@
 -- Certificates that are loaded from files, and why none is.
-use Rattle.std.specs.Prelude.{ℕ, List, Option, Some, None, ◌⊎◌}
+use Rattle.std.specs.Prelude.{ℕ, List, Option, ◌⊎◌}
 use Rattle.p3l_io.specs.Content.{Held}
 use Rattle.p3l_skel.specs.declared.tree.Tree.{Tree}
 use Rattle.p3l_cost.specs.declared.costs.Costs.{Costs}
@@ -7,13 +7,13 @@ use Rattle.p3l_model.specs.Optimal.{IsOptimal}
 use Rattle.p3l_cert.specs.declared.cert.Cert.{Cert}
 use Rattle.p3l_cert.specs.declared.cert.CertRefusal.{CertRefusal}
 use Rattle.p3l_cert.specs.declared.cert.CertRefusal.TheVariants as refusals
-use Rattle.p3l_report.specs.declared.evidence.Evidence.{Evidence}
+use Rattle.p3l_report.specs.declared.evidence.Evidence.TheVariants as evidence
 use Rattle.p3l_report.specs.declared.verdict.Refusal.{Refusal}
 use Rattle.p3l_report.specs.declared.verdict.Refusal.TheVariants as refusal
 use Rattle.p3l_report.specs.declared.verdict.Verdict.{Verdict}
 use Rattle.p3l_report.specs.declared.verdict.Verdict.TheVariants as verdict
 use Rattle.p3l_check.specs.Resolving.{ResolvedTree}
-use Rattle.p3l_program.specs.Certified.{HasCert, IsCertOf, IsNoCert, IsRefuted, cert_limit, evidence_of}
+use Rattle.p3l_program.specs.Certified.{HasCert, IsCertOf, IsNoCert, IsRefuted, cert_limit}
 use Rattle.p3l_program.specs.File.{HasText}
 use Rattle.p3l_program.specs.Stage.{FilesCause, Refuses, readable}
 use Rattle.p3l_program.specs.World.{Change, IsCalm}
@@ -29,14 +29,6 @@ abbrev pub IsCertRefused : Tree → Costs → List ℕ → CertRefusal → Type 
 IsCertRefused tree costs text refusals.NoMemory = Refused
 IsCertRefused tree costs text refused = IsRefuted tree costs text refused
 
--- the verdict of this
-abbrev pub evidence_verdict : Option Evidence → Verdict
-evidence_verdict None = verdict.NoMemory
-evidence_verdict (Some shown) = verdict.Refused (refusal.Evidence shown)
-
-abbrev pub cert_verdict : CertRefusal → Verdict
-cert_verdict refused = evidence_verdict (evidence_of refused)
-
 -- the certificate of a file, for a tree and its costs
 pub record LoadsCert (files : Option Held) (name : List ℕ) (tree : Tree) (costs : Costs) (cert : Cert) : Type 0 where
   pub written : List ℕ
@@ -45,7 +37,7 @@ pub record LoadsCert (files : Option Held) (name : List ℕ) (tree : Tree) (cost
 
 -- a text is no certificate of a tree and its costs
 abbrev pub IsEvidence : Tree → Costs → List ℕ → Refusal → Type 0
-IsEvidence tree costs written (refusal.Evidence shown) = IsNoCert tree costs written shown
+IsEvidence tree costs written (refusal.Evidence (evidence.Cert why)) = IsNoCert tree costs written why
 IsEvidence tree costs written refused = ⊥
 
 -- why no certificate is loaded

@@ -1,5 +1,5 @@
 -- What is loaded from the image of a file, and why nothing is.
-use Rattle.std.specs.Prelude.{◌≡◌, ℕ, ◌≤◌, List, Option, ◌⊎◌}
+use Rattle.std.specs.Prelude.{◌≡◌, ℕ, ◌≤◌, List, Option}
 use Rattle.std.specs.List.{All}
 use Rattle.p3l_skel.specs.Counts.{HasLawfulCounts}
 use Rattle.p3l_skel.specs.Lawful.{IsLawfulTree}
@@ -7,12 +7,8 @@ use Rattle.p3l_firing.specs.Typed.{IsTyped}
 use Rattle.p3l_link.specs.Net.{linked_net}
 use Rattle.p3l_units.specs.Table.{HasCode}
 use Rattle.p3l_image.specs.declared.image.Image.{Image}
-use Rattle.p3l_image.specs.declared.image.ImageRefusal.{ImageRefusal}
-use Rattle.p3l_image.specs.declared.image.ImageRefusal.TheVariants as image
 use Rattle.p3l_io.specs.Content.{Held}
 use Rattle.p3l_load.specs.declared.loaded.Loaded.{Loaded}
-use Rattle.p3l_load.specs.declared.loaded.LoadRefusal.{LoadRefusal}
-use Rattle.p3l_load.specs.declared.loaded.LoadRefusal.TheVariants as load
 use Rattle.p3l_load.specs.Load.{loaded_of}
 use Rattle.p3l_report.specs.declared.evidence.Evidence.TheVariants as evidence
 use Rattle.p3l_report.specs.declared.verdict.Refusal.TheVariants as refusal
@@ -22,31 +18,16 @@ use Rattle.p3l_program.specs.File.{HasText}
 use Rattle.p3l_program.specs.Image.{IsBrokenImage, IsImage, IsNoImage, IsRunnableImage, image_limit}
 use Rattle.p3l_base.specs.Memory.{Refused}
 
--- the verdict of bytes that are no image
-abbrev pub image_verdict : ImageRefusal → Verdict
-image_verdict image.BadMagic = verdict.Refused (refusal.Evidence evidence.BadMagic)
-image_verdict (image.Version version) = verdict.Refused (refusal.Evidence (evidence.Version version))
-image_verdict (image.Short place) = verdict.Refused (refusal.Evidence (evidence.Short place))
-image_verdict (image.BadField place) = verdict.Refused (refusal.Evidence (evidence.BadField place))
-image_verdict (image.TrailingBytes place) = verdict.Refused (refusal.Evidence (evidence.TrailingBytes place))
-image_verdict image.NoMemory = verdict.NoMemory
-
--- the verdict of an image that can't be run
-abbrev pub load_verdict : LoadRefusal → Verdict
-load_verdict load.TreeWrong = verdict.Refused (refusal.Evidence evidence.TreeWrong)
-load_verdict (load.CodeUnsafe number) = verdict.Refused (refusal.Evidence (evidence.CodeUnsafe number))
-load_verdict load.NotLinked = verdict.Refused (refusal.Evidence evidence.NotLinked)
-load_verdict load.NoMemory = verdict.NoMemory
-
 -- why bytes are no image
 abbrev pub IsUndecoded : List ℕ → Verdict → Type 0
-IsUndecoded bytes (verdict.Refused (refusal.Evidence e)) = IsNoImage e bytes
+IsUndecoded bytes (verdict.Refused (refusal.Evidence (evidence.Image why))) = IsNoImage why bytes
 IsUndecoded bytes verdict.NoMemory = Refused
 IsUndecoded bytes v = ⊥
 
 -- why they load none
 abbrev pub IsUnloadable : List ℕ → Verdict → Type 0
-IsUnloadable bytes (verdict.Refused (refusal.Evidence e)) = IsNoImage e bytes ⊎ IsBrokenImage e bytes
+IsUnloadable bytes (verdict.Refused (refusal.Evidence (evidence.Image why))) = IsNoImage why bytes
+IsUnloadable bytes (verdict.Refused (refusal.Evidence (evidence.Load why))) = IsBrokenImage why bytes
 IsUnloadable bytes verdict.NoMemory = Refused
 IsUnloadable bytes v = ⊥
 

@@ -3,13 +3,7 @@ use Rattle.std.specs.Prelude.{◌≡◌, ℕ, ◌≤◌, List, Option}
 use Rattle.p3l_image.specs.declared.image.Image.{Image}
 use Rattle.p3l_io.specs.Content.{Held}
 use Rattle.p3l_load.specs.Load.{loaded_of}
-use Rattle.p3l_report.specs.declared.evidence.Evidence.TheVariants as evidence
-use Rattle.p3l_report.specs.declared.verdict.Refusal.TheVariants as refusal
-use Rattle.p3l_report.specs.declared.verdict.Verdict.{Verdict}
-use Rattle.p3l_report.specs.declared.verdict.Verdict.TheVariants as verdict
 use Rattle.p3l_resume.specs.declared.saved.Saved.{Saved}
-use Rattle.p3l_resume.specs.declared.saved.ShotRefusal.{ShotRefusal}
-use Rattle.p3l_resume.specs.declared.saved.ShotRefusal.TheVariants as shots
 use Rattle.p3l_resume.specs.Saved.{IsSpelling}
 use Rattle.p3l_skel.specs.Numbers.{procs}
 use Rattle.p3l_program.specs.declared.snapshot.Snapshot.{Snapshot}
@@ -17,11 +11,6 @@ use Rattle.p3l_program.specs.File.{HasText}
 use Rattle.p3l_program.specs.Image.{IsImage}
 use Rattle.p3l_program.specs.LoadImage.{IsReadyImage}
 use Rattle.p3l_program.specs.Snapshot.{IsResumable, IsSoundFor, snapshot_limit}
-
--- the verdict of bytes that are no snapshot
-abbrev pub shot_verdict : ShotRefusal → Verdict
-shot_verdict (shots.BadShot place) = verdict.Refused (refusal.Evidence (evidence.BadShot place))
-shot_verdict shots.NoMemory = verdict.NoMemory
 
 -- the one snapshot that the file of this name has was read
 pub record ReadsSnapshot (files : Option Held) (name : List ℕ) (saved : Saved) : Type 0 where

@@ -1,6 +1,6 @@
 -- The way from a text to a network: the program that it spells and that keeps all rules, its costs, the
 -- counts that are chosen for it, and the net of its tree under them.
-use Rattle.std.specs.Prelude.{◌≡◌, ℕ, ◌*◌, List, [], Ok, Err, Option, ◌⊎◌, Some, None}
+use Rattle.std.specs.Prelude.{◌≡◌, ◌≢◌, ℕ, ◌*◌, List, [], Ok, Err, Option, ◌⊎◌, Some, None}
 use Rattle.p3l_ast.specs.declared.position.Pos.{Pos}
 use Rattle.p3l_ast.specs.declared.refusal.Fault.{Fault}
 use Rattle.p3l_ast.specs.declared.refusal.SourceRefusal.{SourceRefusal}
@@ -20,10 +20,6 @@ use Rattle.p3l_cost.specs.Standard.{standard_costs}
 use Rattle.p3l_model.specs.Optimal.{IsChosen}
 use Rattle.p3l_alloc.specs.Chosen.{IsShort}
 use Rattle.p3l_opts.specs.declared.command.Build.{Build}
-use Rattle.p3l_report.specs.declared.cost_fault.CostFault.{CostFault}
-use Rattle.p3l_report.specs.declared.cost_fault.CostFault.TheVariants as fault
-use Rattle.p3l_report.specs.declared.scan_fault.ScanFault.{ScanFault}
-use Rattle.p3l_report.specs.declared.scan_fault.ScanFault.TheVariants as scan
 use Rattle.p3l_skel.specs.Item.{item}
 use Rattle.p3l_skel.specs.Numbers.{firings}
 use Rattle.p3l_units.specs.Table.{leaf}
@@ -40,7 +36,6 @@ use Rattle.p3l_run.specs.Network.{Network, network, network_named, resumed}
 use Rattle.p3l_run.specs.Start.{Resumption}
 use Rattle.p3l_scan.specs.declared.plan.ScanPlan.{ScanPlan}
 use Rattle.p3l_scan.specs.declared.refusal.ScanRefusal.{ScanRefusal}
-use Rattle.p3l_scan.specs.declared.refusal.ScanRefusal.TheVariants as unscannable
 use Rattle.p3l_scan.specs.Plan.{IsScannable}
 use Rattle.p3l_scan.specs.Planned.{IsPlanOf, IsUnscannable}
 use Rattle.p3l_scan.specs.Step.{step_leaf}
@@ -120,31 +115,24 @@ pub record IsAllotted (text : List ℕ) (said : Option (List ℕ)) (processors :
   pub priced : IsPriced text said r cs
   pub chosen : IsChosen r.tree cs processors counts
 
--- how a fault of costs is reported
-abbrev pub refusal_of : CostFault → CostRefusal
-refusal_of fault.NotToml = costs.NotToml
-refusal_of (fault.BadKey key) = costs.BadKey key
-refusal_of (fault.BadValue key) = costs.BadValue key
-refusal_of (fault.Missing name) = costs.Missing name
+-- a text says no costs of a tree, for this reason
+pub record IsUnsaid (tree : Tree) (said : List ℕ) (why : CostRefusal) : Type 0 where
+  pub read : IsRead tree said (Err why)
+  pub named : why ≢ costs.NoMemory
 
--- a text says no costs of the program, for this fault
-pub record IsUnpriced (text said : List ℕ) (f : CostFault) : Type 0 where
+-- nor of the program of another
+pub record IsUnpriced (text said : List ℕ) (why : CostRefusal) : Type 0 where
   pub r : ResolvedTree
   pub accepted : IsAccepted text r
-  pub refused : IsRead r.tree said (Err (refusal_of f))
+  pub refused : IsUnsaid r.tree said why
   pub never : (other : ResolvedTree) (cs : Costs) → IsPriced text (Some said) other cs → ⊥
 
--- how a fault of a scan is reported
-abbrev pub refusal_of_scan : ScanFault → ScanRefusal
-refusal_of_scan scan.NotReduce = unscannable.NotReduce
-refusal_of_scan scan.BadSegments = unscannable.BadSegments
-
--- a text spells one program that keeps all rules, which can't be scanned in this number of segments, for this fault
-pub record IsUnscanned (text : List ℕ) (segments : ℕ) (fault : ScanFault) : Type 0 where
+-- a text spells one program that keeps all rules, which can't be scanned in this number of segments, for this reason
+pub record IsUnscanned (text : List ℕ) (segments : ℕ) (why : ScanRefusal) : Type 0 where
   pub r : ResolvedTree
   pub accepted : IsAccepted text r
   pub only : (other : ResolvedTree) → IsAccepted text other → other ≡ r
-  pub refused : IsUnscannable r.tree segments (refusal_of_scan fault)
+  pub refused : IsUnscannable r.tree segments why
 
 -- no counts of the program fit this number of processors, and the least number that some need
 pub record IsOverfull (text : List ℕ) (said : Option (List ℕ)) (processors need : ℕ) : Type 0 where
@@ -162,12 +150,12 @@ pub record HasCosts (files : Option Held) (program : List ℕ) (costs_file : Opt
   pub says : HasCostText files costs_file said
   pub priced : IsPriced text said r cs
 
-pub record HasNoCosts (files : Option Held) (program costs_file : List ℕ) (f : CostFault) : Type 0 where
+pub record HasNoCosts (files : Option Held) (program costs_file : List ℕ) (why : CostRefusal) : Type 0 where
   pub text : List ℕ
   pub has : HasText files text_limit program text
   pub said : List ℕ
   pub says : HasText files text_limit costs_file said
-  pub refused : IsUnpriced text said f
+  pub refused : IsUnpriced text said why
 
 -- and the counts that are chosen for them
 pub record HasCounts (files : Option Held) (build : Build) (r : ResolvedTree) (cs : Costs) (counts : List ℕ) : Type 0 where
@@ -189,11 +177,11 @@ pub record HasScan (files : Option Held) (name : List ℕ) (segments : ℕ) (r :
   pub has : HasTree files name r
   pub can : IsScannable r.tree segments
 
--- it has one that can't, for this fault
-pub record HasNoScan (files : Option Held) (name : List ℕ) (segments : ℕ) (fault : ScanFault) : Type 0 where
+-- it has one that can't, for this reason
+pub record HasNoScan (files : Option Held) (name : List ℕ) (segments : ℕ) (why : ScanRefusal) : Type 0 where
   pub text : List ℕ
   pub has : HasText files text_limit name text
-  pub refused : IsUnscanned text segments fault
+  pub refused : IsUnscanned text segments why
 
 -- the network of an accepted program under these counts, whose channels hold this number of tokens
 abbrev pub network_of : ResolvedTree → List ℕ → (capacity : ℕ) → Network

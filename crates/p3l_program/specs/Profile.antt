@@ -28,11 +28,12 @@ use Rattle.p3l_report.specs.declared.verdict.Verdict.{Verdict}
 use Rattle.p3l_report.specs.declared.verdict.Verdict.TheVariants as verdict
 use Rattle.p3l_report.specs.Status as status
 use Rattle.p3l_report.specs.Verdict.{ending_status}
+use Rattle.p3l_run.specs.declared.end.RunEnd.TheVariants as end
 use Rattle.p3l_profile.specs.Greatest.{Greatest}
 use Rattle.p3l_profile.specs.Law.{profile_text}
 use Rattle.p3l_profile.specs.Text.{text_of}
-use Rattle.p3l_run.specs.declared.sample.Sampled.{Sampled}
-use Rattle.p3l_run.specs.declared.sample.Sampled.TheVariants as sampled
+use Rattle.p3l_run.specs.declared.sampling.Sampled.{Sampled}
+use Rattle.p3l_run.specs.declared.sampling.Sampled.TheVariants as sampled
 use Rattle.p3l_run.specs.Sampling.{IsValue}
 use Rattle.p3l_program.specs.Behavior.{Behavior}
 use Rattle.p3l_program.specs.Expected.{IsExpectedWith}
@@ -113,8 +114,8 @@ pub record TrapsSo (p : Subject) (input out : Change (List ℕ)) (number : ℕ) 
 -- how a profile ends
 abbrev pub IsProfiled : Subject → Change (List ℕ) → Change (List ℕ) → Finish → Type 0
 IsProfiled p input out finish.Done = IsNoted p input out
-IsProfiled p input out (finish.Stream close) = StopsSo p input out close
-IsProfiled p input out (finish.Trapped number kind name) = TrapsSo p input out number kind name
+IsProfiled p input out (finish.Run (end.Stream close)) = StopsSo p input out close
+IsProfiled p input out (finish.Run (end.Trapped number kind name)) = TrapsSo p input out number kind name
 IsProfiled p input out f = ⊥
 
 -- the file of this name has a program, and no other
@@ -193,7 +194,7 @@ IsProfileOf p input out (verdict.Refused refused) = ⊥
 -- how a profile with these greatest numbers ends whose input ended so
 abbrev pub ClosesSo : Tree → Greatest → Ending → Change (List ℕ) → Finish → Type 0
 ClosesSo tree g close out finish.Done = (close ≡ ending.End) × HasPut out.old out.new (text_of tree g)
-ClosesSo tree g close out (finish.Stream other) = (other ≡ close) × (close ≢ ending.End) × IsStill out
+ClosesSo tree g close out (finish.Run (end.Stream other)) = (other ≡ close) × (close ≢ ending.End) × IsStill out
 ClosesSo tree g close out f = ⊥
 
 -- a prefix of the cost file of the greatest numbers was written, where the input came to its end
@@ -203,7 +204,7 @@ ClosesSome tree g close out = (close ≡ ending.End) × HasBegun out.old out.new
 -- the same of one whose items ended so
 abbrev pub IsClosedProfile : Tree → Greatest → Sampled → Change (List ℕ) → Verdict → Type 0
 IsClosedProfile tree g (sampled.Trapped number kind home) out (verdict.Ended f stats) =
-    (stats ≡ None) × (f ≡ finish.Trapped number kind (module_name tree home)) × IsStill out
+    (stats ≡ None) × (f ≡ finish.Run (end.Trapped number kind (module_name tree home))) × IsStill out
 IsClosedProfile tree g (sampled.Trapped number kind home) out verdict.NoMemory = IsStill out
 IsClosedProfile tree g (sampled.Stream close) out (verdict.Ended f stats) = (stats ≡ None) × IsCalm out × ClosesSo tree g close out f
 IsClosedProfile tree g (sampled.Stream close) out verdict.WriteFault = ClosesSome tree g close out × HasRisen out

@@ -1,17 +1,19 @@
 -- The commands that run a network on the input: of a program, of its scan, of an image, or of a snapshot, from where it was saved.
-use Rattle.std.specs.Prelude.{◌≡◌, ℕ, ℤ, ◌*◌, Bool, true, false, nat_le, List, [], ◌++◌, ◌⊎◌, length, take, Ok, Err, Option, Some, None, if◌then◌else◌}
+use Rattle.std.specs.Prelude.{◌≡◌, ◌≢◌, ℕ, ℤ, ◌*◌, Bool, true, false, nat_le, List, [], ◌++◌, ◌⊎◌, length, take, Ok, Err, Option, Some, None, if◌then◌else◌}
 use Rattle.std.specs.Option.{option_to_list}
 use Rattle.p3l_io.specs.Content.{Held}
 use Rattle.p3l_opts.specs.declared.command.Sched.{Sched}
 use Rattle.p3l_opts.specs.declared.command.Sched.TheVariants as sched
 use Rattle.p3l_report.specs.declared.stats.Stats.{Stats}
+use Rattle.p3l_report.specs.declared.stats.Stats.TheVariants.{Scheduled}
 use Rattle.p3l_report.specs.declared.verdict.Finish.{Finish}
+use Rattle.p3l_report.specs.declared.verdict.Finish.TheVariants.{Run}
 use Rattle.p3l_report.specs.declared.verdict.Refusal.{Refusal}
 use Rattle.p3l_report.specs.declared.verdict.Refusal.TheVariants as refusal
 use Rattle.p3l_report.specs.declared.verdict.Verdict.{Verdict}
 use Rattle.p3l_report.specs.declared.verdict.Verdict.TheVariants as verdict
 use Rattle.p3l_report.specs.Status as status
-use Rattle.p3l_report.specs.Verdict.{finish_status}
+use Rattle.p3l_report.specs.Verdict.{end_status}
 use Rattle.p3l_run.specs.declared.keeping.Keeping.{Keeping}
 use Rattle.p3l_run.specs.declared.keeping.Keeping.TheVariants as keep
 use Rattle.p3l_run.specs.declared.end.RunStats.{RunStats}
@@ -42,7 +44,6 @@ use Rattle.p3l_program.specs.Recorded.{IsRecorded, IsRecording, IsRecordOf, IsRe
 use Rattle.p3l_program.specs.Saved.{KeepsFiles}
 use Rattle.p3l_program.specs.Scheduled.{HasSchedule, picks_limit}
 use Rattle.p3l_program.specs.Stage.{FilesCause, Refuses, readable, run_stages}
-use Rattle.p3l_program.specs.Verdict.{run_finish, run_stats}
 use Rattle.p3l_program.specs.World.{Change, HasFailed, HasRisen, IsCalm, IsStill, World}
 
 -- the numbers of a run, where they are to be reported
@@ -66,8 +67,8 @@ pub record EndsRun (w : World) (origin : Origin) (request : Sched) (trace : Opti
   pub s : Schedule
   pub has : HasRun w.files.old origin request n s
   pub ran : Ran
-  pub finish_is : finish ≡ run_finish ran.finish
-  pub stats_are : stats ≡ shown reported (run_stats ran.stats)
+  pub finish_is : finish ≡ Run ran.finish
+  pub stats_are : stats ≡ shown reported (Scheduled ran.stats)
   pub finishes : Finishes n s (keeping_for trace) w.input.old w.input.new w.input.before w.input.now w.out.old w.out.new ran
   pub recorded : IsRecorded w.files trace (IsRecordOn n s finishes.items finishes.close)
 
@@ -125,7 +126,7 @@ seen_of width rest = items_taken width (stop_of rest) (take input_limit rest)
 
 -- the status of a run under a schedule of these items with this ending
 abbrev pub status_with : Network → Schedule → Items → ℕ
-status_with n s seen = finish_status (run_finish (finish_of n (course_of n s seen.items) seen.ending))
+status_with n s seen = end_status (finish_of n (course_of n s seen.items) seen.ending)
 
 -- the status of a run on an input where no fault comes
 abbrev pub run_status : Network → Schedule → List ℕ → ℕ
@@ -175,8 +176,7 @@ IsRunExpected w origin request trace reported v = IsExpectedWith w (run_stages o
 
 -- a text has no picks of this number of processes
 abbrev pub IsBadPicks : List ℕ → ℕ → Refusal → Type 0
-IsBadPicks text count (refusal.BadPick line) = Reads text count (Err (picks.BadPick line))
-IsBadPicks text count (refusal.NoSuchProcess line pick of_count) = Reads text count (Err (picks.NoSuchProcess line pick of_count))
+IsBadPicks text count (refusal.Schedule why) = Reads text count (Err why) × (why ≢ picks.NoMemory)
 IsBadPicks text count refused = ⊥
 
 pub record HasBadPicks (files : Change Held) (count : ℕ) (name : List ℕ) (refused : Refusal) : Type 0 where
@@ -197,8 +197,8 @@ pub record IsRunTo (n : Network) (files : Change Held) (input out : Change (List
   pub s : Schedule
   pub schedule : HasSchedule files.old (size_of n) request s
   pub ran : Ran
-  pub finish_is : finish ≡ run_finish ran.finish
-  pub stats_are : stats ≡ shown reported (run_stats ran.stats)
+  pub finish_is : finish ≡ Run ran.finish
+  pub stats_are : stats ≡ shown reported (Scheduled ran.stats)
   pub finishes : Finishes n s (keeping_for trace) input.old input.new input.before input.now out.old out.new ran
   pub recorded : IsRecorded files trace (IsRecordOn n s finishes.items finishes.close)
   pub files_calm : IsCalm files
@@ -232,7 +232,7 @@ pub record IsRunNot (files : Change Held) (input out : Change (List ℕ)) : Type
 
 -- how a run that came to its end is reported, once its trace was written where a file is named for it
 abbrev pub IsClosed : Change Held → Ran → Option (List ℕ) → Bool → Verdict → Type 0
-IsClosed files ran trace reported (verdict.Ended finish stats) = (finish ≡ run_finish ran.finish) × (stats ≡ shown reported (run_stats ran.stats)) × IsRecording files trace ran.lines ran.stats (Ok tt)
+IsClosed files ran trace reported (verdict.Ended finish stats) = (finish ≡ Run ran.finish) × (stats ≡ shown reported (Scheduled ran.stats)) × IsRecording files trace ran.lines ran.stats (Ok tt)
 IsClosed files ran trace reported v = IsRecording files trace ran.lines ran.stats (Err v)
 
 -- how the run of a network under the schedule that is requested ends

@@ -135,8 +135,8 @@ pub record TrapsAt (n : Network) (picks : List ℕ) (input out : Change (List �
 -- how it ends; without a checkpoint no file is written
 abbrev pub SavesTo : Network → (counts : List ℕ) → (capacity : ℕ) → (image picks : List ℕ) → Change Held → Change (List ℕ) → Change (List ℕ) → (name : List ℕ) → Option Stats → Finish → Type 0
 SavesTo n counts capacity image picks files input out name report finish.Done = SavesState n counts capacity image picks files input out name report
-SavesTo n counts capacity image picks files input out name report (finish.Stream e) = StopsAt n picks input out report e × (files.new ≡ files.old)
-SavesTo n counts capacity image picks files input out name report (finish.Trapped item kind home) = TrapsAt n picks input out report (end.Trapped item kind home) × (files.new ≡ files.old)
+SavesTo n counts capacity image picks files input out name report (finish.Run (end.Stream e)) = StopsAt n picks input out report e × (files.new ≡ files.old)
+SavesTo n counts capacity image picks files input out name report (finish.Run (end.Trapped item kind home)) = TrapsAt n picks input out report (end.Trapped item kind home) × (files.new ≡ files.old)
 SavesTo n counts capacity image picks files input out name report f = ⊥
 
 -- or a prefix of the text of the meaning was written, and of what the network emits under some of the picks
@@ -312,8 +312,8 @@ pub record IsSaveSome (n : Network) (files : Change Held) (input out : Change (L
 
 -- or it came to another end
 abbrev pub EndsEarly : Network → (picks : List ℕ) → Change (List ℕ) → Change (List ℕ) → Finish → Type 0
-EndsEarly n picks input out (finish.Stream e) = StopsAt n picks input out None e
-EndsEarly n picks input out (finish.Trapped item kind home) = TrapsAt n picks input out None (end.Trapped item kind home)
+EndsEarly n picks input out (finish.Run (end.Stream e)) = StopsAt n picks input out None e
+EndsEarly n picks input out (finish.Run (end.Trapped item kind home)) = TrapsAt n picks input out None (end.Trapped item kind home)
 EndsEarly n picks input out f = ⊥
 
 pub record IsEndedEarly (n : Network) (files : Change Held) (input out : Change (List ℕ)) (name : List ℕ) (f : Finish) : Type 0 where

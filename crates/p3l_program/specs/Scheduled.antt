@@ -1,10 +1,11 @@
 -- Schedules that words and files request.
-use Rattle.std.specs.Prelude.{◌≡◌, ℕ, List, Ok, Err, Option}
+use Rattle.std.specs.Prelude.{◌≡◌, ◌≢◌, ℕ, List, Ok, Err, Option}
 use Rattle.p3l_io.specs.Content.{Held}
 use Rattle.p3l_opts.specs.declared.command.Sched.{Sched}
 use Rattle.p3l_opts.specs.declared.command.Sched.TheVariants as sched
 use Rattle.p3l_run.specs.Network.{Network, size_of}
 use Rattle.p3l_sched.specs.declared.refusal.PickRefusal.{PickRefusal}
+use Rattle.p3l_sched.specs.declared.refusal.PickRefusal.TheVariants as refusals
 use Rattle.p3l_sched.specs.declared.schedule.Schedule.{Schedule}
 use Rattle.p3l_sched.specs.declared.schedule.Schedule.TheVariants as schedule
 use Rattle.p3l_sched.specs.Picks.{Reads}
@@ -31,16 +32,17 @@ HasSchedule files count (sched.Seeded seed) s = s ≡ schedule.Seeded seed
 HasSchedule files count (sched.File name) s = HasPicks files count name s
 
 -- a text has no picks for the network of what is run, for this word
-pub record IsUnscheduled (origin : Origin) (texts : Texts) (picks : List ℕ) (fault : PickRefusal) : Type 0 where
+pub record IsUnscheduled (origin : Origin) (texts : Texts) (picks : List ℕ) (why : PickRefusal) : Type 0 where
   pub n : Network
   pub is : IsNetworkOf origin texts n
-  pub reads : Reads picks (size_of n) (Err fault)
+  pub reads : Reads picks (size_of n) (Err why)
+  pub named : why ≢ refusals.NoMemory
   pub never : (other : Network) (read : List ℕ) → IsNetworkOf origin texts other → Reads picks (size_of other) (Ok read) → ⊥
 
 -- the same of files
-pub record HasNoPicks (files : Option Held) (origin : Origin) (name : List ℕ) (fault : PickRefusal) : Type 0 where
+pub record HasNoPicks (files : Option Held) (origin : Origin) (name : List ℕ) (why : PickRefusal) : Type 0 where
   pub texts : Texts
   pub have : HaveTexts files origin texts
   pub picks : List ℕ
   pub held : HasText files picks_limit name picks
-  pub refused : IsUnscheduled origin texts picks fault
+  pub refused : IsUnscheduled origin texts picks why

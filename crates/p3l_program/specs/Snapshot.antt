@@ -2,16 +2,15 @@
 use Rattle.std.specs.Prelude.{◌≡◌, ℕ, List, Result, Err, Option}
 use Rattle.p3l_format.specs.Format.{read_all}
 use Rattle.p3l_image.specs.declared.image.Image.{Image}
+use Rattle.p3l_image.specs.declared.image.ImageRefusal.{ImageRefusal}
 use Rattle.p3l_io.specs.Content.{Held}
 use Rattle.p3l_load.specs.declared.loaded.Loaded.{Loaded}
+use Rattle.p3l_load.specs.declared.loaded.LoadRefusal.{LoadRefusal}
 use Rattle.p3l_load.specs.Load.{loaded_of}
 use Rattle.p3l_net.specs.declared.shot.Shot.{Shot}
 use Rattle.p3l_orderly.specs.Sound.{IsSound}
-use Rattle.p3l_report.specs.declared.evidence.Evidence.{Evidence}
-use Rattle.p3l_report.specs.declared.evidence.Evidence.TheVariants as evidence
 use Rattle.p3l_resume.specs.declared.saved.Saved.{Saved}
 use Rattle.p3l_resume.specs.declared.saved.ShotRefusal.{ShotRefusal}
-use Rattle.p3l_resume.specs.declared.saved.ShotRefusal.TheVariants as shots
 use Rattle.p3l_resume.specs.Refusal.{answer_of}
 use Rattle.p3l_resume.specs.Saved.{IsSpelling, saved_format}
 use Rattle.p3l_template.specs.Units.{Units}
@@ -27,14 +26,9 @@ snapshot_limit = 268435456
 abbrev pub read_snapshot : List ℕ → Result Saved ShotRefusal
 read_snapshot bytes = answer_of bytes (read_all saved_format bytes)
 
--- why bytes spell no snapshot
-abbrev pub IsMisread : Evidence → List ℕ → Type 0
-IsMisread (evidence.BadShot place) bytes = read_snapshot bytes ≡ Err (shots.BadShot place)
-IsMisread _ bytes = ⊥
-
 -- the bytes spell no snapshot, for this reason
-pub record IsNoSnapshot (e : Evidence) (bytes : List ℕ) : Type 0 where
-  pub misread : IsMisread e bytes
+pub record IsNoSnapshot (why : ShotRefusal) (bytes : List ℕ) : Type 0 where
+  pub misread : read_snapshot bytes ≡ Err why
   pub never : (saved : Saved) → IsSpelling saved bytes → ⊥
 
 -- they spell a snapshot, and the bytes of its image are such
@@ -44,13 +38,13 @@ pub record SpellsWith (AreSuch : List ℕ → Type 0) (bytes : List ℕ) : Type 
   pub are : AreSuch saved.image
 
 -- those of its image spell none, for this reason
-pub record SpellsNoImage (e : Evidence) (bytes : List ℕ) : Type 0 where
-  pub spells : SpellsWith (IsNoImage e) bytes
+pub record SpellsNoImage (why : ImageRefusal) (bytes : List ℕ) : Type 0 where
+  pub spells : SpellsWith (IsNoImage why) bytes
   pub never : (i : Image) → SpellsWith (IsImage i) bytes → ⊥
 
 -- they spell one that can't be run, for this reason
-pub record SpellsBrokenImage (e : Evidence) (bytes : List ℕ) : Type 0 where
-  pub spells : SpellsWith (IsBrokenImage e) bytes
+pub record SpellsBrokenImage (why : LoadRefusal) (bytes : List ℕ) : Type 0 where
+  pub spells : SpellsWith (IsBrokenImage why) bytes
   pub never : (i : Image) → SpellsWith (IsRunnableImage i) bytes → ⊥
 
 -- the units of what was loaded: its tree, and what its codes make of words

@@ -14,9 +14,9 @@ use Rattle.p3l_report.specs.declared.verdict.Refusal.TheVariants as refusal
 use Rattle.p3l_resume.specs.declared.saved.Saved.{Saved}
 use Rattle.p3l_resume.specs.Saved.{IsSpelling}
 use Rattle.p3l_run.specs.Network.{Network, size_of}
-use Rattle.p3l_sched.specs.declared.refusal.PickRefusal.TheVariants as picks
 use Rattle.p3l_sched.specs.declared.schedule.Schedule.{Schedule}
 use Rattle.p3l_trace.specs.declared.trace.Traced.{Traced}
+use Rattle.p3l_trace.specs.declared.trace.TraceRefusal.TheVariants as trace
 use Rattle.p3l_check.specs.Resolving.{ResolvedTree}
 use Rattle.p3l_program.specs.Plan.{HasCosts, HasCounts, HasNetwork, HasNoCosts, HasNoScan, HasNoTree, HasScan, HasTooFew, HasTree, IsAccepted, IsAllotted, IsNotAccepted, IsOverfull, IsPriced, IsUnpriced}
 use Rattle.p3l_program.specs.Certified.{HasCert, HasNoCert, cert_limit}
@@ -83,22 +83,21 @@ Refuses files (readable limit name) (refusal.FileFault named) = (named ≡ name)
 Refuses files (readable limit name) (refusal.FileTooLong named) = (named ≡ name) × IsTooLong files.old limit name
 Refuses files (spelled name) (refusal.Source fault pos) = HasFault files.old name fault pos
 Refuses files (resolved name) (refusal.Source fault pos) = HasNoTree files.old name fault pos
-Refuses files (priced program costs) (refusal.Costs fault) = HasNoCosts files.old program costs fault
+Refuses files (priced program costs) (refusal.Costs why) = HasNoCosts files.old program costs why
 Refuses files (fitting build) (refusal.TooFew need) = HasTooFew files.old build need
-Refuses files (decoded name) (refusal.Evidence evidence) = HasBytes files.old name (IsNoImage evidence)
-Refuses files (loaded name) (refusal.Evidence evidence) = HasBytes files.old name (IsBrokenImage evidence)
-Refuses files (migratable name) (refusal.Evidence evidence) = HasBytes files.old name (IsUnmigratable evidence)
-Refuses files (scheduled origin name) (refusal.BadPick line) = HasNoPicks files.old origin name (picks.BadPick line)
-Refuses files (scheduled origin name) (refusal.NoSuchProcess line pick count) = HasNoPicks files.old origin name (picks.NoSuchProcess line pick count)
-Refuses files (certified program costs name) (refusal.Evidence shown) = HasNoCert files.old program costs name shown
-Refuses files (traced name) (refusal.Evidence (evidence.BadLine line)) = HasNoTrace files.old name line
+Refuses files (decoded name) (refusal.Evidence (evidence.Image why)) = HasBytes files.old name (IsNoImage why)
+Refuses files (loaded name) (refusal.Evidence (evidence.Load why)) = HasBytes files.old name (IsBrokenImage why)
+Refuses files (migratable name) (refusal.Evidence (evidence.Load why)) = HasBytes files.old name (IsUnmigratable why)
+Refuses files (scheduled origin name) (refusal.Schedule why) = HasNoPicks files.old origin name why
+Refuses files (certified program costs name) (refusal.Evidence (evidence.Cert why)) = HasNoCert files.old program costs name why
+Refuses files (traced name) (refusal.Evidence (evidence.Trace (trace.BadLine line))) = HasNoTrace files.old name line
 Refuses files (text_kept text) (refusal.Source fault pos) = IsNotAccepted text fault pos
-Refuses files (text_priced text said) (refusal.Costs fault) = IsUnpriced text said fault
+Refuses files (text_priced text said) (refusal.Costs why) = IsUnpriced text said why
 Refuses files (text_fitting text said processors) (refusal.TooFew need) = IsOverfull text (Some said) processors need
-Refuses files (scannable name segments) (refusal.Scan fault) = HasNoScan files.old name segments fault
-Refuses files (saved name) (refusal.Evidence shown) = HasSnapshot files.old name (IsNoSnapshot shown)
-Refuses files (saved_decoded name) (refusal.Evidence shown) = HasSnapshot files.old name (SpellsNoImage shown)
-Refuses files (saved_loaded name) (refusal.Evidence shown) = HasSnapshot files.old name (SpellsBrokenImage shown)
+Refuses files (scannable name segments) (refusal.Scan why) = HasNoScan files.old name segments why
+Refuses files (saved name) (refusal.Evidence (evidence.Shot why)) = HasSnapshot files.old name (IsNoSnapshot why)
+Refuses files (saved_decoded name) (refusal.Evidence (evidence.Image why)) = HasSnapshot files.old name (SpellsNoImage why)
+Refuses files (saved_loaded name) (refusal.Evidence (evidence.Load why)) = HasSnapshot files.old name (SpellsBrokenImage why)
 Refuses files (resumable name) (refusal.Evidence evidence.NotSound) = HasSnapshot files.old name IsUnsound
 Refuses files stage refused = ⊥
 

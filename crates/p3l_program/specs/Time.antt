@@ -6,6 +6,7 @@ use Rattle.p3l_opts.specs.declared.command.Build.{Build}
 use Rattle.p3l_report.specs.declared.stats.Stats.{Stats}
 use Rattle.p3l_report.specs.declared.stats.Stats.TheVariants as stats
 use Rattle.p3l_report.specs.declared.verdict.Finish.{Finish}
+use Rattle.p3l_report.specs.declared.verdict.Finish.TheVariants.{Run}
 use Rattle.p3l_report.specs.declared.verdict.Verdict.{Verdict}
 use Rattle.p3l_report.specs.declared.verdict.Verdict.TheVariants as verdict
 use Rattle.p3l_run.specs.declared.end.RunStats.{RunStats}
@@ -33,7 +34,6 @@ use Rattle.p3l_program.specs.Plan.{HasNetwork, network_in}
 use Rattle.p3l_program.specs.Run.{IsRunNot, keeping_for, run_status, seen_of}
 use Rattle.p3l_program.specs.Saved.{KeepsFiles}
 use Rattle.p3l_program.specs.Stage.{build_stages}
-use Rattle.p3l_program.specs.Verdict.{run_finish}
 use Rattle.p3l_program.specs.World.{Change, HasFailed, HasRisen, IsCalm, World}
 
 -- the network that files and words request, and the prices of its processes by the costs that files and words request
@@ -72,7 +72,7 @@ pub record TimesTo (n : Network) (prices : List ℕ) (files : Change Held) (inpu
   pub picks : List ℕ
   pub ran : Ran
   pub runs : RunsInTime n prices input out (keeping_for name) picks ran
-  pub finish_is : finish ≡ run_finish ran.finish
+  pub finish_is : finish ≡ Run ran.finish
   pub numbers : AreTimes n prices input out (keeping_for name) picks ran runs report
   pub saved : ArePicksSaved files name picks
 
@@ -170,7 +170,7 @@ pub record AreReported (numbers : RunStats) (k : Clock) (report : Option Stats) 
 
 -- how a run that came to its end is reported, once its picks were written where a file is named for them
 abbrev pub IsTimeClosed : Change Held → Ran → Clock → Option (List ℕ) → Verdict → Type 0
-IsTimeClosed files ran k name (verdict.Ended finish report) = (finish ≡ run_finish ran.finish) × AreReported ran.stats k report × IsPicking files name ran.lines (Ok tt)
+IsTimeClosed files ran k name (verdict.Ended finish report) = (finish ≡ Run ran.finish) × AreReported ran.stats k report × IsPicking files name ran.lines (Ok tt)
 IsTimeClosed files ran k name v = IsPicking files name ran.lines (Err v)
 
 -- the file of its picks could not be written, when it was over

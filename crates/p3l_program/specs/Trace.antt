@@ -13,6 +13,7 @@ use Rattle.p3l_report.specs.declared.verdict.Verdict.{Verdict}
 use Rattle.p3l_report.specs.declared.verdict.Verdict.TheVariants as verdict
 use Rattle.p3l_report.specs.Status as status
 use Rattle.p3l_report.specs.Verdict.{ending_status}
+use Rattle.p3l_run.specs.declared.end.RunEnd.TheVariants as end
 use Rattle.p3l_run.specs.Retraced.{AgreesOn, DiffersOn, sent_before_last}
 use Rattle.p3l_run.specs.Network.{Network, begun_with, width_of}
 use Rattle.p3l_run.specs.Write.{HasBegun, HasPut}
@@ -21,6 +22,7 @@ use Rattle.p3l_stream.specs.declared.items.Ending.TheVariants as ending
 use Rattle.p3l_stream.specs.declared.items.Items.{Items}
 use Rattle.p3l_stream.specs.Items.{items_of}
 use Rattle.p3l_trace.specs.declared.trace.Traced.{Traced}
+use Rattle.p3l_trace.specs.declared.trace.TraceRefusal.TheVariants as trace
 use Rattle.p3l_trace.specs.Agreement.{Agrees, DiffersAt, picks_of}
 use Rattle.p3l_program.specs.Behavior.{Behavior}
 use Rattle.p3l_program.specs.Expected.{IsExpectedWith}
@@ -69,7 +71,7 @@ pub record DiffersSo (w : World) (n : Network) (t : Traced) (line : ℕ) : Type 
 -- how the check ends
 abbrev pub IsChecked : World → Network → Traced → Finish → Type 0
 IsChecked w n t finish.Done = Agreed w n t
-IsChecked w n t (finish.Stream close) = StopsSo w n t close
+IsChecked w n t (finish.Run (end.Stream close)) = StopsSo w n t close
 IsChecked w n t (finish.Differs line) = DiffersSo w n t line
 IsChecked w n t f = ⊥
 
@@ -151,7 +153,7 @@ IsCheckExpected w build name v = IsExpectedWith w (check_stages build name) (End
 -- a file has no trace
 pub record HasBadTrace (files : Change Held) (name : List ℕ) (refused : Refusal) : Type 0 where
   pub line : ℕ
-  pub is : refused ≡ refusal.Evidence (evidence.BadLine line)
+  pub is : refused ≡ refusal.Evidence (evidence.Trace (trace.BadLine line))
   pub none : HasNoTrace files.old name line
   pub calm : IsCalm files
 
@@ -164,7 +166,7 @@ IsUntraced files name v = ⊥
 -- how a check ends of which no line differs, by the output and how the stream ended
 abbrev pub AgreedEnd : Change (List ℕ) → Traced → Option Ending → Finish → Type 0
 AgreedEnd out t close finish.Done = IsUnrefused close × HasPut out.old out.new (holds_line t)
-AgreedEnd out t close (finish.Stream e) = (close ≡ Some e) × (e ≢ ending.End) × IsStill out
+AgreedEnd out t close (finish.Run (end.Stream e)) = (close ≡ Some e) × (e ≢ ending.End) × IsStill out
 AgreedEnd out t close f = ⊥
 
 abbrev pub IsAgreed : Change (List ℕ) → Traced → Option Ending → Verdict → Type 0

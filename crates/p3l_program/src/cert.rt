@@ -3,9 +3,8 @@
 ghost use Rattle.std.specs.Prelude.{◌≡◌, IfOk, IfErr, OnOk};
 ghost use Rattle.p3l_skel.specs.Lawful.{IsLawfulTree};
 ghost use Rattle.p3l_cost.specs.Costs.{AreCostsOf};
-ghost use Rattle.p3l_program.specs.Certified.{claim_of};
 ghost use Rattle.p3l_program.specs.Load.{IsNotLoaded};
-ghost use Rattle.p3l_program.specs.LoadCert.{AcceptsCert, IsCertRefused, IsCertless, LoadsCert, LoadsVerified, cert_verdict};
+ghost use Rattle.p3l_program.specs.LoadCert.{AcceptsCert, IsCertRefused, IsCertless, LoadsCert, LoadsVerified};
 ghost use Rattle.p3l_program.specs.Stage.{verify_stages};
 ghost use Rattle.p3l_program.specs.World.{files_change};
 ghost use Rattle.p3l_program.specs.Wants.{Wants};
@@ -16,49 +15,12 @@ use p3l_base::Name;
 use p3l_cert::{Cert, CertRefusal, check, read_cert};
 use p3l_cost::Costs;
 use p3l_io::Files;
-use p3l_report::{Claim, Evidence, Refusal, Verdict};
+use p3l_report::{Evidence, Refusal, Verdict};
 use p3l_skel::{Tree, lawful_counts};
 use std::alloc::Global;
 
 /// The most bytes of a file of a certificate.
 pub const CERT_LIMIT: u64 = 268_435_456;
-
-/// The name of a claim that isn't so.
-fn claim_of(claim: p3l_cert::Claim) -> Claim
-    ensures { result ≡ claim_of claim }
-{
-    match claim {
-        p3l_cert::Claim::Counts => Claim::Counts,
-        p3l_cert::Claim::Service => Claim::Service,
-        p3l_cert::Claim::Used => Claim::Used,
-        p3l_cert::Claim::Fits => Claim::Fits,
-        p3l_cert::Claim::Least => Claim::Least,
-    }
-}
-
-/// The verdict of a certificate that is refused.
-fn cert_verdict(refusal: CertRefusal) -> Verdict
-    ensures { result ≡ cert_verdict refusal }
-{
-    let evidence = match refusal {
-        CertRefusal::RowWrong { row, kept, found } => Evidence::RowWrong { row, kept, found },
-        CertRefusal::RowMissing {
-            row,
-            node,
-            bound,
-            cap,
-        } => Evidence::RowMissing {
-            row,
-            node,
-            bound,
-            cap,
-        },
-        CertRefusal::ClaimWrong(claim) => Evidence::ClaimWrong(claim_of(claim)),
-        CertRefusal::BadText { line } => Evidence::BadText { line },
-        CertRefusal::NoMemory => return Verdict::NoMemory,
-    };
-    Verdict::Refused(Refusal::Evidence(evidence))
-}
 
 /// The certificate that a text spells, if it holds for a tree and its costs; else its first fault.
 fn accept_cert(alloc: Global, tree: &Tree, costs: &Costs, text: &[u8]) -> Result<Cert, CertRefusal>
@@ -102,7 +64,7 @@ fn cert_in<F: Files>(
         Err(refusal) => Err(Verdict::from(refusal)),
         Ok(text) => match accept_cert(alloc, tree, costs, text.as_slice()) {
             Ok(cert) => Ok(cert),
-            Err(refusal) => Err(cert_verdict(refusal)),
+            Err(refusal) => Err(Verdict::from(Refusal::Evidence(Evidence::Cert(refusal)))),
         },
     }
 }

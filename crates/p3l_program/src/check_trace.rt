@@ -22,10 +22,10 @@ use p3l_load::Loaded;
 use p3l_opts::Build;
 use p3l_report::{Evidence, Finish, Refusal, Verdict};
 use p3l_run::retrace::{Retraced, retrace};
-use p3l_run::Plan;
+use p3l_run::{Plan, RunEnd};
 use p3l_skel::Units;
 use p3l_stream::Ending;
-use p3l_trace::{TraceRefusal, Traced, read_trace};
+use p3l_trace::{Traced, read_trace};
 use p3l_units::UnitTable;
 use std::alloc::Global;
 
@@ -45,10 +45,7 @@ fn load_trace<F: Files>(alloc: Global, name: Name, files: &mut F) -> Result<Trac
         Err(refusal) => Err(Verdict::from(refusal)),
         Ok(text) => match read_trace(alloc, text.as_slice()) {
             Ok(traced) => Ok(traced),
-            Err(TraceRefusal::BadLine { line }) => Err(Verdict::Refused(Refusal::Evidence(
-                Evidence::BadLine { line },
-            ))),
-            Err(TraceRefusal::NoMemory) => Err(Verdict::NoMemory),
+            Err(refusal) => Err(Verdict::from(Refusal::Evidence(Evidence::Trace(refusal)))),
         },
     }
 }
@@ -70,7 +67,7 @@ fn agreed<K: Sink>(alloc: Global, traced: &Traced, close: Option<Ending>, out: &
     if let Some(ending) = close
         && ending != Ending::End
     {
-        return Verdict::Ended(Finish::Stream(ending), None);
+        return Verdict::Ended(Finish::Run(RunEnd::Stream(ending)), None);
     }
     match holds_line(alloc, traced) {
         Ok(line) => write_text(line.as_str().as_bytes(), out),

@@ -14,9 +14,9 @@ ghost use Rattle.p3l_program.specs.World.{change, files_change};
 ghost use Rattle.p3l_program.specs.Wants.{Wants};
 
 use crate::memory::{NoSink, TextSource};
-use crate::plan::{Accepted, Allotted, accept, cost_verdict, plan_of};
+use crate::plan::{Accepted, Allotted, accept, plan_of};
 use crate::save::save;
-use crate::verdict::{fault_verdict, run_finish};
+use crate::verdict::fault_verdict;
 use p3l_alloc::{AllocRefusal, choose};
 use p3l_ast::SourceRefusal;
 use p3l_base::{List, Name, NoMemory};
@@ -27,7 +27,7 @@ use p3l_io::{Files, Sink};
 use p3l_link::laws::every_linked_net_is_carried;
 use p3l_link::link;
 use p3l_opts::Sched;
-use p3l_report::{Refusal, Verdict};
+use p3l_report::{Finish, Refusal, Verdict};
 use p3l_run::run::run;
 use p3l_run::write::write;
 use p3l_run::{Keeping, Ran, RunEnd, RunStats};
@@ -122,7 +122,7 @@ fn load_texts(
     };
     let costs = match read_costs(alloc, costs, &program.tree) {
         Ok(costs) => costs,
-        Err(refusal) => return Err(cost_verdict(refusal)),
+        Err(refusal) => return Err(Verdict::from(Refusal::Costs(refusal))),
     };
     match choose(alloc, &program.tree, &costs, processors) {
         Ok(choice) => Ok(Allotted {
@@ -235,13 +235,13 @@ fn put_summary<K: Sink>(
     ensures wants { (files : Bool) → Wants files result }
 {
     if !comes_whole(&ran.finish) {
-        return Verdict::Ended(run_finish(ran.finish), None);
+        return Verdict::Ended(Finish::Run(ran.finish), None);
     }
     let Ok(line) = summary_line(alloc, number, &ran, service, used) else {
         return Verdict::NoMemory;
     };
     match write(out, line.as_str().as_bytes()) {
-        Ok(()) => Verdict::Ended(run_finish(ran.finish), None),
+        Ok(()) => Verdict::Ended(Finish::Run(ran.finish), None),
         Err(fault) => fault_verdict(fault),
     }
 }

@@ -2,7 +2,7 @@
 
 ghost use Rattle.std.specs.Prelude.{◌≡◌, ◌≤◌, IfOk, IfErr, OnOk, Bool};
 ghost use Rattle.p3l_program.specs.Load.{IsNotLoaded, LoadsNetwork};
-ghost use Rattle.p3l_program.specs.LoadImage.{IsReadyImage, IsUnloadable, LoadsBytes, image_verdict, load_verdict};
+ghost use Rattle.p3l_program.specs.LoadImage.{IsReadyImage, IsUnloadable, LoadsBytes};
 ghost use Rattle.p3l_program.specs.Origin.{imaged};
 ghost use Rattle.p3l_program.specs.Plan.{network_in};
 ghost use Rattle.p3l_program.specs.Migrate.{Migrates};
@@ -12,42 +12,14 @@ ghost use Rattle.p3l_program.specs.Wants.{Wants};
 
 use crate::file::find_text;
 use p3l_base::Name;
-use p3l_image::{Image, ImageRefusal, decode};
+use p3l_image::{Image, decode};
 use p3l_io::Files;
-use p3l_load::{LoadRefusal, Loaded, load, migrate};
+use p3l_load::{Loaded, load, migrate};
 use p3l_report::{Evidence, Refusal, Verdict};
 use std::alloc::Global;
 
 /// The most bytes of a file of an image.
 pub const IMAGE_LIMIT: u64 = 67_108_864;
-
-/// The verdict of bytes that are no image.
-fn image_verdict(refusal: ImageRefusal) -> Verdict
-    ensures { result ≡ image_verdict refusal }
-{
-    let evidence = match refusal {
-        ImageRefusal::BadMagic => Evidence::BadMagic,
-        ImageRefusal::Version(version) => Evidence::Version(version),
-        ImageRefusal::Short(place) => Evidence::Short(place),
-        ImageRefusal::BadField(place) => Evidence::BadField(place),
-        ImageRefusal::TrailingBytes(place) => Evidence::TrailingBytes(place),
-        ImageRefusal::NoMemory => return Verdict::NoMemory,
-    };
-    Verdict::Refused(Refusal::Evidence(evidence))
-}
-
-/// The verdict of an image that can't be run.
-fn load_verdict(refusal: LoadRefusal) -> Verdict
-    ensures { result ≡ load_verdict refusal }
-{
-    let evidence = match refusal {
-        LoadRefusal::TreeWrong => Evidence::TreeWrong,
-        LoadRefusal::CodeUnsafe(number) => Evidence::CodeUnsafe(number),
-        LoadRefusal::NotLinked => Evidence::NotLinked,
-        LoadRefusal::NoMemory => return Verdict::NoMemory,
-    };
-    Verdict::Refused(Refusal::Evidence(evidence))
-}
 
 /// The image that these bytes spell, if it can be run; else the verdict that it can't.
 pub fn load_bytes(alloc: Global, bytes: &[u8]) -> Result<Loaded, Verdict>
@@ -57,11 +29,11 @@ pub fn load_bytes(alloc: Global, bytes: &[u8]) -> Result<Loaded, Verdict>
 {
     let image = match decode(alloc, bytes) {
         Ok(image) => image,
-        Err(refusal) => return Err(image_verdict(refusal)),
+        Err(refusal) => return Err(Verdict::from(Refusal::Evidence(Evidence::Image(refusal)))),
     };
     match load(alloc, image) {
         Ok(loaded) => Ok(loaded),
-        Err(refusal) => Err(load_verdict(refusal)),
+        Err(refusal) => Err(Verdict::from(Refusal::Evidence(Evidence::Load(refusal)))),
     }
 }
 
@@ -100,10 +72,10 @@ pub fn migrate_image<F: Files>(alloc: Global, name: Name, files: &mut F) -> Resu
     };
     let image = match decode(alloc, bytes.as_slice()) {
         Ok(image) => image,
-        Err(refusal) => return Err(image_verdict(refusal)),
+        Err(refusal) => return Err(Verdict::from(Refusal::Evidence(Evidence::Image(refusal)))),
     };
     match migrate(alloc, image) {
         Ok(migrated) => Ok(migrated),
-        Err(refusal) => Err(load_verdict(refusal)),
+        Err(refusal) => Err(Verdict::from(Refusal::Evidence(Evidence::Load(refusal)))),
     }
 }

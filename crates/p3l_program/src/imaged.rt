@@ -119,10 +119,7 @@ pub fn load_imaged<F: Files>(alloc: Global, build: Build, files: &mut F) -> Resu
         ⊎ HasLongImage (F.held files.old) build) }
 {
     let capacity = build.capacity;
-    let allotted = match allot(alloc, build, files) {
-        Ok(allotted) => allotted,
-        Err(verdict) => return Err(verdict),
-    };
+    let allotted = allot(alloc, build, files)?;
     match image_allotted(alloc, allotted, capacity) {
         Ok(imaged) => Ok(imaged),
         Err(_) => Err(Verdict::NoMemory),

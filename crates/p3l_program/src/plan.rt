@@ -4,14 +4,16 @@
 ghost use Rattle.std.specs.Prelude.{◌≡◌, ◌<◌, ◌≤◌, ◌*◌, ◌^◌, length, IfOk, IfErr, OnOk};
 ghost use Rattle.p3l_base.specs.Memory.{IfGiven};
 ghost use Rattle.p3l_check.specs.Resolving.{ResolvedTree};
+ghost use Rattle.p3l_model.specs.Optimal.{IsChosen};
+ghost use Rattle.p3l_model.specs.Service.{service};
 ghost use Rattle.p3l_run.specs.Feed.{most_of_input};
 ghost use Rattle.p3l_run.specs.Network.{network};
 ghost use Rattle.p3l_skel.specs.Counts.{HasLawfulCounts};
 ghost use Rattle.p3l_skel.specs.Lawful.{IsLawfulTree};
-ghost use Rattle.p3l_skel.specs.Numbers.{firings};
+ghost use Rattle.p3l_skel.specs.Numbers.{firings, procs};
 ghost use Rattle.p3l_skel.specs.Tree.{node_at};
 ghost use Rattle.p3l_program.specs.File.{text_limit};
-ghost use Rattle.p3l_program.specs.Load.{AcceptsText, IsCostless, IsNotLoaded, IsReady, Loads, LoadsCosts, LoadsNetwork, LoadsProgram, cost_verdict};
+ghost use Rattle.p3l_program.specs.Load.{AcceptsText, IsCostless, IsNotLoaded, IsReady, IsUnchosen, Loads, LoadsCosts, LoadsNetwork, LoadsProgram};
 ghost use Rattle.p3l_program.specs.LoadImage.{IsReadyImage};
 ghost use Rattle.p3l_program.specs.Origin.{built};
 ghost use Rattle.p3l_program.specs.Plan.{IsCompiled, IsTextRefused, network_in, network_of};
@@ -28,7 +30,7 @@ use p3l_body_laws::resolved_serve;
 use p3l_check::resolve;
 use p3l_code::SafeCode;
 use p3l_compile::codes_of;
-use p3l_cost::{CostRefusal, Costs, read_costs, standard};
+use p3l_cost::{Costs, read_costs, standard};
 use p3l_firing::Net;
 use p3l_io::Files;
 use p3l_link::link;
@@ -36,7 +38,7 @@ use p3l_load::Loaded;
 use p3l_model::firings;
 use p3l_opts::Build;
 use p3l_reader::read;
-use p3l_report::{CostFault, Refusal, Verdict};
+use p3l_report::{Refusal, Verdict};
 use p3l_run::Plan;
 use p3l_skel::{Counts, Tree, Units};
 use std::alloc::Global;
@@ -86,19 +88,6 @@ pub fn load_program<F: Files>(alloc: Global, name: Name, files: &mut F) -> Resul
     }
 }
 
-/// The verdict of costs that are refused.
-pub fn cost_verdict(refusal: CostRefusal) -> Verdict
-    ensures { result ≡ cost_verdict refusal }
-{
-    match refusal {
-        CostRefusal::NotToml => Verdict::Refused(Refusal::Costs(CostFault::NotToml)),
-        CostRefusal::BadKey(key) => Verdict::Refused(Refusal::Costs(CostFault::BadKey(key))),
-        CostRefusal::BadValue(key) => Verdict::Refused(Refusal::Costs(CostFault::BadValue(key))),
-        CostRefusal::Missing(name) => Verdict::Refused(Refusal::Costs(CostFault::Missing(name))),
-        CostRefusal::NoMemory => Verdict::NoMemory,
-    }
-}
-
 /// The costs of a tree that the file of this name says.
 fn costs_in<F: Files>(
     alloc: Global,
@@ -119,7 +108,7 @@ fn costs_in<F: Files>(
         Err(refusal) => Err(Verdict::from(refusal)),
         Ok(text) => match read_costs(alloc, text.as_slice(), tree) {
             Ok(costs) => Ok(costs),
-            Err(refusal) => Err(cost_verdict(refusal)),
+            Err(refusal) => Err(Verdict::from(Refusal::Costs(refusal))),
         },
     }
 }
@@ -149,6 +138,48 @@ pub fn load_costs<F: Files>(
     }
 }
 
+/// The costs of a tree, and the counts of workers that are chosen for it by them.
+#[derive(Drop)]
+pub struct Chosen {
+    pub costs: Costs,
+    pub choice: Choice,
+}
+
+/// Loads the costs of a tree, by the file that is named for them, and chooses the counts of workers
+/// for this number of processors; or returns the verdict that there are none.
+pub fn choose_counts<F: Files>(
+    alloc: Global,
+    tree: &Tree,
+    name: Option<Name>,
+    processors: u32,
+    files: &mut F,
+) -> Result<Chosen, Verdict>
+    requires lawful { IsLawfulTree tree.now }
+    requires some { 1 ≤ processors }
+    requires few { processors ≤ 512 }
+    ensures costs { IfOk result (λ chosen. LoadsCosts (F.held files.old) name tree.now
+        chosen.costs) }
+    ensures chosen { IfOk result (λ chosen.
+        IsChosen tree.now chosen.costs processors chosen.choice.counts.list) }
+    ensures service { IfOk result (λ chosen.
+        chosen.choice.service ≡ service tree.now chosen.costs chosen.choice.counts.list 0) }
+    ensures used { IfOk result (λ chosen.
+        chosen.choice.used ≡ procs tree.now chosen.choice.counts.list 0) }
+    ensures calm { OnOk result (F.faults files.new ≡ F.faults files.old) }
+    ensures refused { IfErr result (IsUnchosen
+        (files_change F.held F.faults F.failed files.old files.new)
+        name tree.now processors) }
+    ensures stays { F.held files.new ≡ F.held files.old }
+    ensures wants { IfErr result (Wants F.may_want) }
+{
+    let costs = load_costs(alloc, name, tree, files)?;
+    match choose(alloc, tree, &costs, processors) {
+        Ok(choice) => Ok(Chosen { costs, choice }),
+        Err(AllocRefusal::TooFew { need }) => Err(Verdict::Refused(Refusal::TooFew { need })),
+        Err(AllocRefusal::NoMemory) => Err(Verdict::NoMemory),
+    }
+}
+
 /// A program with its costs, and the counts of workers that are chosen for it.
 #[derive(Drop)]
 pub struct Allotted {
@@ -170,23 +201,13 @@ pub fn allot<F: Files>(alloc: Global, build: Build, files: &mut F) -> Result<All
     ensures wants { IfErr result (Wants F.may_want) }
 {
     let processors = build.processors;
-    let program = match load_program(alloc, build.program, files) {
-        Ok(program) => program,
-        Err(verdict) => return Err(verdict),
-    };
-    let costs = match load_costs(alloc, build.costs, &program.tree, files) {
-        Ok(costs) => costs,
-        Err(verdict) => return Err(verdict),
-    };
-    match choose(alloc, &program.tree, &costs, processors) {
-        Ok(choice) => Ok(Allotted {
-            program,
-            costs,
-            choice,
-        }),
-        Err(AllocRefusal::TooFew { need }) => Err(Verdict::Refused(Refusal::TooFew { need })),
-        Err(AllocRefusal::NoMemory) => Err(Verdict::NoMemory),
-    }
+    let program = load_program(alloc, build.program, files)?;
+    let chosen = choose_counts(alloc, &program.tree, build.costs, processors, files)?;
+    Ok(Allotted {
+        program,
+        costs: chosen.costs,
+        choice: chosen.choice,
+    })
 }
 
 /// The network of a program, with the costs by which its counts were chosen.
@@ -241,10 +262,7 @@ pub fn load_linked<F: Files>(alloc: Global, build: Build, files: &mut F) -> Resu
     ensures wants { IfErr result (Wants F.may_want) }
 {
     let capacity = build.capacity;
-    let allotted = match allot(alloc, build, files) {
-        Ok(allotted) => allotted,
-        Err(verdict) => return Err(verdict),
-    };
+    let allotted = allot(alloc, build, files)?;
     match link_allotted(alloc, allotted, capacity) {
         Ok(linked) => Ok(linked),
         Err(_) => Err(Verdict::NoMemory),

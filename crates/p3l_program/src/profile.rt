@@ -6,7 +6,7 @@ ghost use Rattle.std.specs.List.{All};
 ghost use Rattle.p3l_skel.specs.Lawful.{IsLawfulTree};
 ghost use Rattle.p3l_units.specs.Table.{HasCode};
 ghost use Rattle.p3l_run.specs.Run.{module_name};
-ghost use Rattle.p3l_run.specs.declared.sample.Sampled.TheVariants as sampled;
+ghost use Rattle.p3l_run.specs.declared.sampling.Sampled.TheVariants as sampled;
 ghost use Rattle.p3l_program.specs.Profile.{IsClosedProfile, IsProfileExpected, IsProfileOf, coded};
 ghost use Rattle.p3l_program.specs.World.{change, files_change, world};
 ghost use Rattle.p3l_program.specs.Wants.{Wants};
@@ -19,7 +19,7 @@ use p3l_io::{Files, Sink, Source};
 use p3l_profile::Profile;
 use p3l_profile::laws::a_profile_has_the_greatest;
 use p3l_report::{Finish, Verdict};
-use p3l_run::{Sampled, sample};
+use p3l_run::{RunEnd, Sampled, sample};
 use p3l_skel::Tree;
 use p3l_stream::Ending;
 use std::alloc::Global;
@@ -47,7 +47,7 @@ fn close<K: Sink>(
     ensures wants { (files : Bool) → Wants files result }
 {
     if ending != Ending::End {
-        return Verdict::Ended(Finish::Stream(ending), None);
+        return Verdict::Ended(Finish::Run(RunEnd::Stream(ending)), None);
     }
     match profile.text(alloc, tree) {
         Ok(text) => write_text(text.as_slice(), out),
@@ -70,7 +70,7 @@ fn finish<K: Sink>(
     match sampled {
         Sampled::Stream(ending) => close(alloc, tree, profile, ending, out),
         Sampled::Trapped { item, kind, module } => match name_of(alloc, tree, module) {
-            Ok(module) => Verdict::Ended(Finish::Trapped { item, kind, module }, None),
+            Ok(module) => Verdict::Ended(Finish::Run(RunEnd::Trapped { item, kind, module }), None),
             Err(_) => Verdict::NoMemory,
         },
     }

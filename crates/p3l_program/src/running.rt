@@ -14,7 +14,7 @@ ghost use Rattle.p3l_program.specs.Wants.{Wants};
 use crate::plan::plan_of;
 use crate::record::record;
 use crate::schedule::load_schedule;
-use crate::verdict::{fault_verdict, run_finish, run_stats};
+use crate::verdict::fault_verdict;
 use p3l_base::Name;
 use p3l_io::{Files, Sink, Source};
 use p3l_link::laws::every_linked_net_is_carried;
@@ -67,7 +67,7 @@ pub fn close<F: Files>(
         ..
     } = ran;
     match record(alloc, trace, lines, &stats, files) {
-        Ok(()) => ended(run_finish(finish), run_stats(stats), reported),
+        Ok(()) => ended(Finish::Run(finish), Stats::Scheduled(stats), reported),
         Err(verdict) => verdict,
     }
 }

@@ -16,7 +16,7 @@ use crate::imaged::{Imaged, load_imaged};
 use crate::plan::plan_of;
 use crate::save::save;
 use crate::schedule::picks_in;
-use crate::verdict::{fault_verdict, run_finish};
+use crate::verdict::fault_verdict;
 use p3l_base::{List, Name};
 use p3l_io::{Files, Sink, Source};
 use p3l_link::laws::every_linked_net_is_carried;
@@ -70,7 +70,7 @@ fn reach<U: Units, F: Files, S: Source, K: Sink>(
     };
     match run_to_checkpoint(alloc, plan, picks, input, out) {
         Err(fault) => Err(fault_verdict(fault)),
-        Ok(CheckpointEnd::Ended(end)) => Err(Verdict::Ended(run_finish(end), None)),
+        Ok(CheckpointEnd::Ended(end)) => Err(Verdict::Ended(Finish::Run(end), None)),
         Ok(CheckpointEnd::Saved(checkpoint)) => Ok(checkpoint),
     }
 }

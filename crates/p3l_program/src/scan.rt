@@ -5,7 +5,7 @@ ghost use Rattle.std.specs.Prelude.{◌≡◌, ◌≤◌, ◌⊎◌, [], None, I
 ghost use Rattle.p3l_check.specs.Resolving.{ResolvedTree};
 ghost use Rattle.p3l_program.specs.Load.{IsNotLoaded};
 ghost use Rattle.p3l_program.specs.Origin.{scanned};
-ghost use Rattle.p3l_program.specs.Plan.{IsCompiled, refusal_of_scan, scan_network};
+ghost use Rattle.p3l_program.specs.Plan.{IsCompiled, scan_network};
 ghost use Rattle.p3l_program.specs.Run.{IsRunExpected, IsRunOf, KeepsRun, RunsOver};
 ghost use Rattle.p3l_program.specs.Saved.{KeepsFiles};
 ghost use Rattle.p3l_program.specs.Scan.{IsReadyScan, LoadsScan};
@@ -21,8 +21,8 @@ use p3l_io::{Files, Sink, Source};
 use p3l_link::laws::every_linked_net_is_carried;
 use p3l_link::link;
 use p3l_opts::Sched;
-use p3l_report::{Refusal, ScanFault, Verdict};
-use p3l_scan::{ScanPlan, ScanRefusal, ScanUnits, can_scan, scan_plan};
+use p3l_report::{Refusal, Verdict};
+use p3l_scan::{ScanPlan, ScanUnits, can_scan, scan_plan};
 use std::alloc::Global;
 
 /// A program whose `main` can be scanned, with the plan of its scan.
@@ -30,16 +30,6 @@ use std::alloc::Global;
 pub struct Planned {
     pub program: Accepted,
     pub plan: ScanPlan,
-}
-
-/// How a scan that is refused is reported.
-fn scan_fault(refusal: ScanRefusal) -> ScanFault
-    ensures { refusal_of_scan result ≡ refusal }
-{
-    match refusal {
-        ScanRefusal::NotReduce => ScanFault::NotReduce,
-        ScanRefusal::BadSegments => ScanFault::BadSegments,
-    }
 }
 
 /// The program of a file with the plan of its scan in this number of segments, or the verdict that
@@ -64,7 +54,7 @@ fn load_scan<F: Files>(
         Err(verdict) => return Err(verdict),
     };
     match can_scan(&program.tree, segments) {
-        Err(refusal) => Err(Verdict::Refused(Refusal::Scan(scan_fault(refusal)))),
+        Err(refusal) => Err(Verdict::Refused(Refusal::Scan(refusal))),
         Ok(()) => match scan_plan(alloc, &program.tree, segments) {
             Ok(plan) => Ok(Planned { program, plan }),
             Err(_) => Err(Verdict::NoMemory),

@@ -14,7 +14,7 @@ use p3l_base::{List, Name};
 use p3l_io::Files;
 use p3l_opts::Sched;
 use p3l_report::{Refusal, Verdict};
-use p3l_sched::{PickRefusal, Schedule, read_picks};
+use p3l_sched::{Schedule, read_picks};
 use std::alloc::Global;
 
 /// The most bytes of a file of picks.
@@ -42,11 +42,7 @@ pub fn picks_in<F: Files>(
         Err(refusal) => Err(Verdict::from(refusal)),
         Ok(text) => match read_picks(alloc, text.as_slice(), count) {
             Ok(picks) => Ok(picks),
-            Err(PickRefusal::BadPick { line }) => Err(Verdict::Refused(Refusal::BadPick { line })),
-            Err(PickRefusal::NoSuchProcess { line, pick, count }) => {
-                Err(Verdict::Refused(Refusal::NoSuchProcess { line, pick, count }))
-            }
-            Err(PickRefusal::NoMemory) => Err(Verdict::NoMemory),
+            Err(refusal) => Err(Verdict::from(Refusal::Schedule(refusal))),
         },
     }
 }

@@ -2,7 +2,7 @@
 
 ghost use Rattle.std.specs.Prelude.{◌≡◌, IfOk, IfErr, OnOk};
 ghost use Rattle.p3l_program.specs.Load.{IsNotLoaded, LoadsNetwork};
-ghost use Rattle.p3l_program.specs.LoadSnapshot.{IsReadySnapshot, LoadsSnapshot, ReadsSnapshot, shot_verdict};
+ghost use Rattle.p3l_program.specs.LoadSnapshot.{IsReadySnapshot, LoadsSnapshot, ReadsSnapshot};
 ghost use Rattle.p3l_program.specs.Origin.{continued};
 ghost use Rattle.p3l_program.specs.Plan.{continued_network};
 ghost use Rattle.p3l_program.specs.Stage.{snapshot_stages};
@@ -17,7 +17,7 @@ use p3l_load::Loaded;
 use p3l_net::Shot;
 use p3l_orderly::is_sound;
 use p3l_report::{Evidence, Refusal, Verdict};
-use p3l_resume::{Saved, ShotRefusal, read_shot};
+use p3l_resume::{Saved, read_shot};
 use std::alloc::Global;
 
 /// The most bytes of a file of a snapshot.
@@ -28,18 +28,6 @@ pub const SNAPSHOT_LIMIT: u64 = 268_435_456;
 pub struct Snapshot {
     pub network: Loaded,
     pub shot: Shot,
-}
-
-/// The verdict of bytes that are no snapshot.
-fn shot_verdict(refusal: ShotRefusal) -> Verdict
-    ensures { result ≡ shot_verdict refusal }
-{
-    match refusal {
-        ShotRefusal::BadShot(place) => {
-            Verdict::Refused(Refusal::Evidence(Evidence::BadShot(place)))
-        }
-        ShotRefusal::NoMemory => Verdict::NoMemory,
-    }
 }
 
 /// The snapshot of the file of this name, or the verdict that there is none.
@@ -56,7 +44,7 @@ fn read_snapshot<F: Files>(alloc: Global, name: Name, files: &mut F) -> Result<S
         Err(refusal) => Err(Verdict::from(refusal)),
         Ok(bytes) => match read_shot(alloc, bytes.as_slice()) {
             Ok(saved) => Ok(saved),
-            Err(refusal) => Err(shot_verdict(refusal)),
+            Err(refusal) => Err(Verdict::from(Refusal::Evidence(Evidence::Shot(refusal)))),
         },
     }
 }

@@ -12,8 +12,7 @@ ghost use Rattle.p3l_program.specs.World.{files_change};
 ghost use Rattle.p3l_program.specs.Wants.{Wants};
 
 use crate::file::{TEXT_LIMIT, find_text};
-use crate::plan::load_costs;
-use p3l_alloc::{AllocRefusal, choose};
+use crate::plan::choose_counts;
 use p3l_ast::{Program, SourceRefusal};
 use p3l_base::Name;
 use p3l_check::resolve;
@@ -98,22 +97,12 @@ pub fn load_priced<F: Files>(alloc: Global, build: Build, files: &mut F) -> Resu
     ensures wants { IfErr result (Wants F.may_want) }
 {
     let processors = build.processors;
-    let source = match load_source(alloc, build.program, files) {
-        Ok(source) => source,
-        Err(verdict) => return Err(verdict),
-    };
-    let costs = match load_costs(alloc, build.costs, &source.tree, files) {
-        Ok(costs) => costs,
-        Err(verdict) => return Err(verdict),
-    };
-    match choose(alloc, &source.tree, &costs, processors) {
-        Ok(choice) => Ok(Priced {
-            program: source.program,
-            tree: source.tree,
-            costs,
-            counts: choice.counts,
-        }),
-        Err(AllocRefusal::TooFew { need }) => Err(Verdict::Refused(Refusal::TooFew { need })),
-        Err(AllocRefusal::NoMemory) => Err(Verdict::NoMemory),
-    }
+    let source = load_source(alloc, build.program, files)?;
+    let chosen = choose_counts(alloc, &source.tree, build.costs, processors, files)?;
+    Ok(Priced {
+        program: source.program,
+        tree: source.tree,
+        costs: chosen.costs,
+        counts: chosen.choice.counts,
+    })
 }

@@ -16,7 +16,7 @@ ghost use Rattle.p3l_program.specs.Wants.{Wants};
 use crate::picks::save_picks;
 use crate::plan::{Linked, load_linked, plan_of};
 use crate::running::keeping_for;
-use crate::verdict::{fault_verdict, run_finish};
+use crate::verdict::fault_verdict;
 use p3l_base::Name;
 use p3l_cost::Costs;
 use p3l_io::{Files, Sink, Source};
@@ -24,7 +24,7 @@ use p3l_link::laws::every_linked_net_is_carried;
 use p3l_load::Loaded;
 use p3l_opts::Build;
 use p3l_price_laws::linked_nets_have_small_prices;
-use p3l_report::{Stats, Verdict};
+use p3l_report::{Finish, Stats, Verdict};
 use p3l_run::{Plan, Ran, RunStats, TimedRan, run_in_time};
 use p3l_skel::Units;
 use p3l_timed::Timer;
@@ -64,7 +64,7 @@ fn close<F: Files>(alloc: Global, end: TimedRan, picks: Option<Name>, files: &mu
     } = ran;
     let numbers = time_stats(&stats, &timer);
     match save_picks(alloc, picks, lines, files) {
-        Ok(()) => Verdict::Ended(run_finish(finish), Some(numbers)),
+        Ok(()) => Verdict::Ended(Finish::Run(finish), Some(numbers)),
         Err(verdict) => verdict,
     }
 }

@@ -49,48 +49,86 @@ fn perform<F: Files, S: Source, K: Sink>(
     match parse(alloc, words) {
         Err(OptsRefusal::Usage) => Verdict::Refused(Refusal::Usage),
         Err(OptsRefusal::NoMemory) => Verdict::NoMemory,
-        Ok(Command::Check(name)) => check(alloc, name, files, out),
-        Ok(Command::Fmt(name)) => fmt(alloc, name, files, out),
-        Ok(Command::Explain(build, cert)) => match cert {
+        Ok(Command::Check { program }) => check(alloc, program, files, out),
+        Ok(Command::Fmt { program }) => fmt(alloc, program, files, out),
+        Ok(Command::Explain { build, cert }) => match cert {
             None => explain(alloc, build, files, out),
             Some(name) => certify(alloc, build, name, files, out),
         },
-        Ok(Command::Advise(build, processes)) => advise(alloc, build, processes, files, out),
-        Ok(Command::Compile(build, name)) => compile(alloc, build, name, files),
-        Ok(Command::Migrate(name, output)) => migrate(alloc, name, output, files),
-        Ok(Command::Export(exported, name)) => export(alloc, exported, name, files),
-        Ok(Command::Graph(build)) => graph(alloc, build, files, out),
-        Ok(Command::Run(build, schedule, trace, reported)) => run(
-            alloc, build, schedule, trace, reported, files, input, out,
+        Ok(Command::Advise { build, processes }) => advise(alloc, build, processes, files, out),
+        Ok(Command::Compile { build, output }) => compile(alloc, build, output, files),
+        Ok(Command::Migrate { image, output }) => migrate(alloc, image, output, files),
+        Ok(Command::Export { exported, output }) => export(alloc, exported, output, files),
+        Ok(Command::Graph { build }) => graph(alloc, build, files, out),
+        Ok(
+            Command::Run {
+                build,
+                schedule,
+                trace,
+                stats,
+            },
+        ) => run(alloc, build, schedule, trace, stats, files, input, out),
+        Ok(
+            Command::VerifyCert {
+                program,
+                cert,
+                costs,
+            },
+        ) => verify_cert(alloc, program, cert, costs, files, out),
+        Ok(
+            Command::Exec {
+                image,
+                schedule,
+                trace,
+                stats,
+            },
+        ) => exec(alloc, image, schedule, trace, stats, files, input, out),
+        Ok(Command::CheckTrace { build, trace }) => {
+            check_trace(alloc, build, trace, files, input, out)
+        }
+        Ok(
+            Command::Gen {
+                number,
+                processors,
+                items,
+                schedule,
+                save,
+            },
+        ) => run_generated(alloc, number, processors, items, schedule, save, files, out),
+        Ok(
+            Command::Rewrite {
+                program,
+                processors,
+                costs,
+            },
+        ) => rewrite(alloc, program, processors, costs, files, out),
+        Ok(Command::Profile { program }) => profile(alloc, program, files, input, out),
+        Ok(Command::Time { build, picks }) => time(alloc, build, picks, files, input, out),
+        Ok(
+            Command::Scan {
+                program,
+                segments,
+                schedule,
+                capacity,
+                stats,
+            },
+        ) => scan(
+            alloc, program, segments, schedule, capacity, stats, files, input, out,
         ),
-        Ok(Command::VerifyCert(program, cert, costs)) => {
-            verify_cert(alloc, program, cert, costs, files, out)
-        }
-        Ok(Command::Exec(name, schedule, trace, reported)) => exec(
-            alloc, name, schedule, trace, reported, files, input, out,
-        ),
-        Ok(Command::CheckTrace(build, name)) => {
-            check_trace(alloc, build, name, files, input, out)
-        }
-        Ok(Command::Gen(number, processors, items, schedule, prefix)) => {
-            run_generated(
-                alloc, number, processors, items, schedule, prefix, files, out,
-            )
-        }
-        Ok(Command::Rewrite(program, processors, costs)) => {
-            rewrite(alloc, program, processors, costs, files, out)
-        }
-        Ok(Command::Profile(name)) => profile(alloc, name, files, input, out),
-        Ok(Command::Time(build, picks)) => time(alloc, build, picks, files, input, out),
-        Ok(Command::Scan(name, segments, schedule, capacity, reported)) => scan(
-            alloc, name, segments, schedule, capacity, reported, files, input, out,
-        ),
-        Ok(Command::Save(build, picks, output)) => {
-            save_state(alloc, build, picks, output, files, input, out)
-        }
-        Ok(Command::Resume(name, schedule, reported)) => {
-            resume(alloc, name, schedule, reported, files, input, out)
-        }
+        Ok(
+            Command::Save {
+                build,
+                picks,
+                output,
+            },
+        ) => save_state(alloc, build, picks, output, files, input, out),
+        Ok(
+            Command::Resume {
+                snapshot,
+                schedule,
+                stats,
+            },
+        ) => resume(alloc, snapshot, schedule, stats, files, input, out),
     }
 }
 

@@ -5,6 +5,7 @@ use crate::world::{play, take_block};
 use p3l_base::List;
 use p3l_io::MemSink;
 use p3l_report::{Finish, Verdict, put_report, report_of};
+use p3l_run::RunEnd;
 use p3l_stream::Ending;
 use std::alloc::Global;
 use std::process::Abort;
@@ -178,7 +179,7 @@ fn each_trap_and_each_number_of_costs_are_reported(rt: HostRuntime) -> Result<()
 #[test]
 fn an_input_that_is_too_long_is_reported(rt: HostRuntime) -> Result<(), Fail> {
     let alloc = rt.alloc();
-    let verdict = Verdict::Ended(Finish::Stream(Ending::TooLong), None);
+    let verdict = Verdict::Ended(Finish::Run(RunEnd::Stream(Ending::TooLong)), None);
     let report = report_of(alloc, &verdict)?;
     let mut err = MemSink::new(alloc, 65_536, List::new(alloc))?;
     put_report(&mut err, &report);

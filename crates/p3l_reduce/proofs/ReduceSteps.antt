@@ -1,5 +1,6 @@
 -- The steps of what is found in a reduce.
-use Rattle.std.proofs.Common.{◌≡◌, ℕ, zero, suc, ◌+◌, ◌-◌, ◌^◌, ◌<◌, ◌≤◌, ◌&&◌, ◌⊎◌, inl, inr, nat_lt, Option, Some, None, cond, Bool, true, false, List, [], ◌∷◌, ◌++◌, length, get_or, refl, sym, ap, ap₂, ◌∙◌, subst, arith, append-nil, lt-ltb, le-ltb}
+use Rattle.std.proofs.Common.{◌≡◌, ℕ, zero, suc, ◌+◌, ◌-◌, ◌^◌, ◌<◌, ◌≤◌, ◌&&◌, ◌⊎◌, inl, inr, nat_lt, Option, Some, None, cond, true, false, List, [], ◌∷◌, ◌++◌, length, get_or, refl, sym, ap, ap₂, ◌∙◌, subst, arith, append-nil, lt-ltb, le-ltb}
+use Rattle.std.proofs.Math.Bool.{and-false}
 use Rattle.std.proofs.lemmas.Bool.{cases_Bool, cond-true, cond-false}
 use Rattle.p3l_skel.specs.declared.tree.Tree.{Tree}
 use Rattle.p3l_firing.specs.State.{State}
@@ -76,10 +77,6 @@ no_list None h = refl
 no_list (Some x) h = absurd (h x refl)
 
 -- TOKENS WITHOUT OUTCOMES
-and_false : (b : Bool) → (b && false) ≡ false
-and_false true = refl
-and_false false = refl
-
 -- matching lists combined pairwise are the left one
 pairwise_left : (m : ℕ) (xs ys : List Token) → length xs ≡ length ys → pairwise (bare_folding m) xs ys ≡ bares xs
 unfolding pairwise paired_by
@@ -184,14 +181,14 @@ module _ (m : ℕ) (base : Base) (s : State) where
   none_left d l r n =
       let f : even h v d l ≡ false = none_orderly (found_from m d l v) n in
       sym (cond-false _ _ _ (ap (λ b. matched (flow h v d l) (flow h v d r) && (b && even h v d r)) f
-      ∙ and_false (matched (flow h v d l) (flow h v d r))))
+      ∙ and-false (matched (flow h v d l) (flow h v d r))))
 
   none_right : (d l r : ℕ) → None ≡ if_orderly (found_from m d r v) → None ≡ if_orderly (joint d l r)
   unfolding if_orderly found_from
   none_right d l r n =
       let f : even h v d r ≡ false = none_orderly (found_from m d r v) n in
-      sym (cond-false _ _ _ (ap (λ b. matched (flow h v d l) (flow h v d r) && b) (ap (λ b. even h v d l && b) f ∙ and_false (even h v d l))
-      ∙ and_false (matched (flow h v d l) (flow h v d r))))
+      sym (cond-false _ _ _ (ap (λ b. matched (flow h v d l) (flow h v d r) && b) (ap (λ b. even h v d l && b) f ∙ and-false (even h v d l))
+      ∙ and-false (matched (flow h v d l) (flow h v d r))))
 
   unmatched : (d l r : ℕ) (left right : List Token) → left ≡ flow h v d l → right ≡ flow h v d r → matched left right ≡ false →
       None ≡ if_orderly (joint d l r)
@@ -249,7 +246,7 @@ module _ (m : ℕ) (base : Base) (s : State) where
   -- the whole
   pub none_sent : (d : ℕ) → split_ok h (bares held) number ≡ false → None ≡ if_orderly (found_by m d v)
   unfolding if_orderly found_by well_kept
-  none_sent d n = sym (cond-false _ _ _ (ap (λ b. even h v d 1 && b) n ∙ and_false (even h v d 1)))
+  none_sent d n = sym (cond-false _ _ _ (ap (λ b. even h v d 1 && b) n ∙ and-false (even h v d 1)))
 
   pub found_whole : (d : ℕ) → split_ok h (bares held) number ≡ true → if_orderly (found_from m d 1 v) ≡ if_orderly (found_by m d v)
   unfolding if_orderly found_from found_by well_kept

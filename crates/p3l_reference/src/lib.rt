@@ -2,5 +2,6 @@
 #![tactic(auto)]
 
 pub mod item;
+mod leaves;
 
 pub use item::item_outcome;

@@ -1,8 +1,8 @@
-pub mod CostFault
+pub mod Costs
 pub mod Evidence
-pub mod ScanFault
+pub mod Scan
+pub mod Schedule
 pub mod Status
-pub mod LineFault
 pub mod Trap
 pub mod Line
 pub mod LineText

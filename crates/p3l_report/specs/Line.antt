@@ -5,11 +5,13 @@ use Rattle.p3l_ast.specs.declared.refusal.Fault.{Fault}
 use Rattle.p3l_ast.specs.declared.position.Pos.{Pos}
 use Rattle.p3l_ast.specs.Refusal as source
 use Rattle.p3l_base.specs.declared.outcome.TrapKind.{TrapKind}
-use Rattle.p3l_report.specs.declared.line_fault.LineFault.{LineFault}
 use Rattle.p3l_report.specs.declared.stats.Stats.{Stats}
 use Rattle.p3l_report.specs.declared.stats.Stats.TheVariants as stats
-use Rattle.p3l_report.specs.LineFault.{number_of, name_of}
 use Rattle.p3l_report.specs.Trap.{kind_text}
+
+-- no memory
+abbrev pub no_memory_line : List ℕ
+no_memory_line = codes "no memory\n"
 
 -- WHAT: NAME
 abbrev pub named_line : List ℕ → List ℕ → List ℕ
@@ -21,19 +23,12 @@ source_line fault pos =
     codes "source: " ++ (decimal pos.line ++ (codes ":" ++ (decimal pos.col ++ (codes ": " ++ (decimal (source.number_of fault) ++ (codes " " ++ (source.name_of fault ++ codes "\n")))))))
 
 -- WHAT: line N: NUMBER NAME
-abbrev pub numbered_line : List ℕ → ℕ → LineFault → List ℕ
-numbered_line what line fault =
-    what ++ (codes ": line " ++ (decimal line ++ (codes ": " ++ (decimal (number_of fault) ++ (codes " " ++ (name_of fault ++ codes "\n"))))))
+abbrev pub numbered_line : List ℕ → ℕ → List ℕ → List ℕ
+numbered_line what line fault = what ++ (codes ": line " ++ (decimal line ++ (codes ": " ++ (fault ++ codes "\n"))))
 
--- stream: line N: NUMBER NAME COUNT
-abbrev pub counted_line : ℕ → LineFault → ℕ → List ℕ
-counted_line line fault had =
-    codes "stream: line " ++ (decimal line ++ (codes ": " ++ (decimal (number_of fault) ++ (codes " " ++ (name_of fault ++ (codes " " ++ (decimal had ++ codes "\n")))))))
-
--- schedule: line N: NUMBER NAME PICK of COUNT
-abbrev pub pick_line : ℕ → LineFault → ℕ → ℕ → List ℕ
-pick_line line fault pick count =
-    codes "schedule: line " ++ (decimal line ++ (codes ": " ++ (decimal (number_of fault) ++ (codes " " ++ (name_of fault ++ (codes " " ++ (decimal pick ++ (codes " of " ++ (decimal count ++ codes "\n")))))))))
+-- stream: line N: 101 WrongCount COUNT
+abbrev pub counted_line : ℕ → ℕ → List ℕ
+counted_line line had = codes "stream: line " ++ (decimal line ++ (codes ": 101 WrongCount " ++ (decimal had ++ codes "\n")))
 
 -- too few processors: need N
 abbrev pub need_line : ℕ → List ℕ
@@ -53,8 +48,9 @@ trap_line item kind home =
 -- time: items N, fired F, finish T, busiest P B; and of a run whose state was saved
 -- saved: items K, picks A
 abbrev pub stats_line : Stats → List ℕ
-stats_line (stats.Scheduled items fired idle bound) =
-    codes "stats: items " ++ (decimal items ++ (codes ", fired " ++ (decimal fired ++ (codes ", idle " ++ (decimal idle ++ (codes ", bound " ++ (decimal bound ++ codes "\n")))))))
+stats_line (stats.Scheduled numbers) =
+    codes "stats: items " ++ (decimal numbers.items ++ (codes ", fired " ++ (decimal numbers.fired ++ (codes ", idle " ++ (decimal numbers.idle
+    ++ (codes ", bound " ++ (decimal numbers.bound ++ codes "\n")))))))
 stats_line (stats.Timed items fired finish busiest busy) =
     codes "time: items " ++ (decimal items ++ (codes ", fired " ++ (decimal fired ++ (codes ", finish " ++ (decimal finish
     ++ (codes ", busiest " ++ (decimal busiest ++ (codes " " ++ (decimal busy ++ codes "\n")))))))))

@@ -3,14 +3,14 @@
 ghost use Rattle.std.specs.Prelude.{◌≡◌, ◌++◌, codes};
 ghost use Rattle.p3l_base.specs.Memory.{IfGiven};
 ghost use Rattle.std.specs.Fmt.{decimal};
-ghost use Rattle.p3l_report.specs.Line.{counted_line, named_line, need_line, numbered_line, pick_line, source_line, stats_line, stopped_line, trap_line};
+ghost use Rattle.p3l_report.specs.Line.{counted_line, named_line, need_line, no_memory_line, numbered_line, source_line, stats_line, stopped_line, trap_line};
 ghost use Rattle.p3l_report.specs.LineText.{line_text};
 
-use crate::line_fault::LineFault;
 use crate::stats::Stats;
 use crate::trap::kind_text;
 use p3l_ast::{Fault, Pos};
 use p3l_base::{Name, NoMemory, TrapKind};
+use p3l_run::RunStats;
 use std::alloc::Global;
 
 /// A line: one that is always the same, or one that was made.
@@ -30,6 +30,13 @@ impl Line {
             Line::Made(text) => text.as_str().as_bytes(),
         }
     }
+}
+
+/// The line that says that memory ran out.
+pub fn no_memory_line() -> Line
+    ensures { line_text result ≡ no_memory_line }
+{
+    Line::Fixed("no memory\n")
 }
 
 /// A line that says what became of a file.
@@ -53,44 +60,25 @@ pub fn fault_line(alloc: Global, fault: Fault, pos: Pos) -> Result<Line, NoMemor
     Ok(Line::Made(text))
 }
 
-/// The line of a line of a text, as the stream or the file of picks, that is refused.
+/// The line of a line of a text, as the stream or the file of picks, that is refused with this number
+/// and name.
 pub fn refused_line(
     alloc: Global,
     what: &'static str,
     number: u64,
-    fault: LineFault,
+    fault: &'static str,
 ) -> Result<Line, NoMemory>
-    ensures { IfGiven result (λ line. line_text line ≡ numbered_line what.now number fault) }
+    ensures { IfGiven result (λ line. line_text line ≡ numbered_line what.now number fault.now) }
 {
-    let code = fault.number();
-    let name = fault.name();
-    let text = format!(in alloc; "{what}: line {number}: {code} {name}\n")?;
+    let text = format!(in alloc; "{what}: line {number}: {fault}\n")?;
     Ok(Line::Made(text))
 }
 
 /// The line of a line of the stream that has another count of words than an item.
-pub fn count_line(alloc: Global, number: u64, fault: LineFault, had: u64) -> Result<Line, NoMemory>
-    ensures { IfGiven result (λ line. line_text line ≡ counted_line number fault had) }
+pub fn count_line(alloc: Global, number: u64, had: u64) -> Result<Line, NoMemory>
+    ensures { IfGiven result (λ line. line_text line ≡ counted_line number had) }
 {
-    let code = fault.number();
-    let name = fault.name();
-    let text = format!(in alloc; "stream: line {number}: {code} {name} {had}\n")?;
-    Ok(Line::Made(text))
-}
-
-/// The line of a pick that is the number of no process.
-pub fn process_line(
-    alloc: Global,
-    number: u64,
-    fault: LineFault,
-    pick: u64,
-    count: u32,
-) -> Result<Line, NoMemory>
-    ensures { IfGiven result (λ line. line_text line ≡ pick_line number fault pick count) }
-{
-    let code = fault.number();
-    let name = fault.name();
-    let text = format!(in alloc; "schedule: line {number}: {code} {name} {pick} of {count}\n")?;
+    let text = format!(in alloc; "stream: line {number}: 101 WrongCount {had}\n")?;
     Ok(Line::Made(text))
 }
 
@@ -125,12 +113,13 @@ pub fn numbers_line(alloc: Global, stats: Stats) -> Result<Line, NoMemory>
     ensures { IfGiven result (λ line. line_text line ≡ stats_line stats) }
 {
     match stats {
-        Stats::Scheduled {
-            items,
-            fired,
-            idle,
-            bound,
-        } => {
+        Stats::Scheduled(numbers) => {
+            let RunStats {
+                items,
+                fired,
+                idle,
+                bound,
+            } = numbers;
             let text = format!(in alloc;
                 "stats: items {items}, fired {fired}, idle {idle}, bound {bound}\n"
             )?;

@@ -4,20 +4,21 @@ ghost use Rattle.std.specs.Prelude.{◌≡◌, ◌++◌, ◌≤◌, List, ℕ, S
 ghost use Rattle.p3l_base.specs.Memory.{IfGiven};
 ghost use Rattle.p3l_io.specs.Causes.{Rose};
 ghost use Rattle.p3l_report.specs.declared.verdict.Verdict.TheVariants as verdicts;
-ghost use Rattle.p3l_report.specs.Verdict.{ending_line, finish_line, lines_of, refusal_line, reported_line, status_line};
+ghost use Rattle.p3l_report.specs.Verdict.{end_line, ending_line, finish_line, lines_of, refusal_line, reported_line, status_line};
 ghost use Rattle.p3l_report.specs.Report.{IsReportOf, PutsFront, PutsFronts, optional_text, report_text};
 
-use crate::cost_fault::cost_line;
-use crate::evidence::{Evidence, evidence_line};
+use crate::costs::cost_line;
+use crate::evidence::{differs_line, evidence_line};
 use crate::line::{
-    Line, count_line, fault_line, few_line, file_line, numbers_line, picks_line, process_line,
+    Line, count_line, fault_line, few_line, file_line, no_memory_line, numbers_line, picks_line,
     refused_line, trapped_line,
 };
-use crate::line_fault::LineFault;
-use crate::scan_fault::scan_line;
+use crate::scan::scan_line;
+use crate::schedule::schedule_line;
 use crate::verdict::{Finish, Refusal, Verdict};
 use p3l_base::NoMemory;
 use p3l_io::Sink;
+use p3l_run::RunEnd;
 use p3l_stream::Ending;
 use std::alloc::Global;
 
@@ -37,18 +38,11 @@ fn line_of_refusal(alloc: Global, refusal: &Refusal) -> Result<Line, NoMemory>
         Refusal::FileFault(name) => file_line(alloc, "file fault", name),
         Refusal::FileTooLong(name) => file_line(alloc, "file too long", name),
         Refusal::Source { fault, pos } => fault_line(alloc, *fault, *pos),
-        Refusal::Costs(fault) => cost_line(alloc, fault),
+        Refusal::Costs(refusal) => cost_line(alloc, refusal),
         Refusal::TooFew { need } => few_line(alloc, *need),
-        Refusal::BadPick { line } => refused_line(alloc, "schedule", *line, LineFault::BadPick),
-        Refusal::NoSuchProcess { line, pick, count } => process_line(
-            alloc,
-            *line,
-            LineFault::NoSuchProcess,
-            *pick,
-            *count,
-        ),
+        Refusal::Schedule(refusal) => schedule_line(alloc, *refusal),
         Refusal::Evidence(evidence) => evidence_line(alloc, evidence),
-        Refusal::Scan(fault) => Ok(scan_line(*fault)),
+        Refusal::Scan(refusal) => Ok(scan_line(*refusal)),
     }
 }
 
@@ -58,38 +52,37 @@ fn line_of_ending(alloc: Global, ending: Ending) -> Result<Option<Line>, NoMemor
 {
     match ending {
         Ending::End => Ok(None),
-        Ending::BadWord(line) => {
-            Ok(Some(refused_line(alloc, "stream", line, LineFault::BadWord)?))
-        }
-        Ending::WrongCount { line, had } => Ok(Some(count_line(
-            alloc,
-            line,
-            LineFault::WrongCount,
-            had,
-        )?)),
+        Ending::BadWord(line) => Ok(Some(refused_line(alloc, "stream", line, "100 BadWord")?)),
+        Ending::WrongCount { line, had } => Ok(Some(count_line(alloc, line, had)?)),
         Ending::OutOfRange(line) => {
-            Ok(Some(refused_line(alloc, "stream", line, LineFault::OutOfRange)?))
+            Ok(Some(refused_line(alloc, "stream", line, "102 OutOfRange")?))
         }
         Ending::ReadFault => Ok(Some(Line::Fixed("read fault\n"))),
         Ending::TooLong => Ok(Some(Line::Fixed("input too long\n"))),
     }
 }
 
-/// The line of an end, if one is to be written.
+/// The line of a run that ended so, if one is to be written.
+fn line_of_end(alloc: Global, end: &RunEnd) -> Result<Option<Line>, NoMemory>
+    ensures { IfGiven result (λ line. optional_text line ≡ end_line end.now) }
+{
+    match end {
+        RunEnd::Stopped { fired, idle } => Ok(Some(picks_line(alloc, *fired, *idle)?)),
+        RunEnd::Trapped { item, kind, module } => {
+            Ok(Some(trapped_line(alloc, *item, *kind, module)?))
+        }
+        RunEnd::Stream(ending) => line_of_ending(alloc, *ending),
+    }
+}
+
+/// The line of a command's end, if one is to be written.
 fn line_of_finish(alloc: Global, finish: &Finish) -> Result<Option<Line>, NoMemory>
     ensures { IfGiven result (λ line. optional_text line ≡ finish_line finish.now) }
 {
     match finish {
         Finish::Done => Ok(None),
-        Finish::Stopped { fired, idle } => Ok(Some(picks_line(alloc, *fired, *idle)?)),
-        Finish::Trapped { item, kind, module } => {
-            Ok(Some(trapped_line(alloc, *item, *kind, module)?))
-        }
-        Finish::Stream(ending) => line_of_ending(alloc, *ending),
-        Finish::Differs { line } => Ok(Some(evidence_line(
-            alloc,
-            &Evidence::Differs { line: *line },
-        )?)),
+        Finish::Run(end) => line_of_end(alloc, end),
+        Finish::Differs { line } => Ok(Some(differs_line(alloc, *line)?)),
     }
 }
 
@@ -101,7 +94,7 @@ fn line_of_status(alloc: Global, verdict: &Verdict) -> Result<Option<Line>, NoMe
         Verdict::Refused(refusal) => Ok(Some(line_of_refusal(alloc, refusal)?)),
         Verdict::Ended(finish, _) => line_of_finish(alloc, finish),
         Verdict::WriteFault => Ok(Some(Line::Fixed("write fault\n"))),
-        Verdict::NoMemory => Ok(Some(Line::Fixed("no memory\n"))),
+        Verdict::NoMemory => Ok(Some(no_memory_line())),
     }
 }
 

@@ -1,19 +1,12 @@
 // The numbers of a run.
 
+use p3l_run::RunStats;
+
 /// The numbers of a run, as they are reported.
 #[derive(Clone, Copy, Drop)]
 pub enum Stats {
     /// Of a run under a schedule.
-    Scheduled {
-        /// How many items the source process has sent.
-        items: u64,
-        /// How many firings there were.
-        fired: u64,
-        /// How many picks could not fire.
-        idle: u64,
-        /// The bound on the firings: the items, each with the firings that it can need.
-        bound: u128,
-    },
+    Scheduled(RunStats),
     /// Of a run in virtual time.
     Timed {
         /// How many items the source process has sent.

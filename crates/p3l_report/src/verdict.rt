@@ -1,15 +1,22 @@
 // How a command ends, and the status that stands for it.
 
 ghost use Rattle.std.specs.Prelude.{◌≡◌};
-ghost use Rattle.p3l_report.specs.Verdict.{ending_status, finish_status, refusal_status, status_of};
+ghost use Rattle.p3l_report.specs.Verdict.{end_status, ending_status, finish_status, is_no_memory, refusal_status, status_of, verdict_of};
 
-use crate::cost_fault::CostFault;
 use crate::evidence::Evidence;
-use crate::scan_fault::ScanFault;
 use crate::stats::Stats;
 use p3l_ast::{Fault, Pos};
-use p3l_base::{Name, TrapKind};
+use p3l_base::Name;
+use p3l_cert::CertRefusal;
+use p3l_cost::CostRefusal;
+use p3l_image::ImageRefusal;
+use p3l_load::LoadRefusal;
+use p3l_resume::ShotRefusal;
+use p3l_run::RunEnd;
+use p3l_scan::ScanRefusal;
+use p3l_sched::PickRefusal;
 use p3l_stream::Ending;
+use p3l_trace::TraceRefusal;
 
 /// The status of the program, as `main` ends with it.
 #[derive(Clone, Copy, Debug, Drop, PartialEq, Eq)]
@@ -27,17 +34,15 @@ pub enum Refusal {
     /// The text of the program is refused.
     Source { fault: Fault, pos: Pos },
     /// The file of costs is refused.
-    Costs(CostFault),
+    Costs(CostRefusal),
     /// No counts of workers fit the processors, of which at least `need` are needed.
     TooFew { need: u64 },
-    /// A word of the file of picks is no number.
-    BadPick { line: u64 },
-    /// A pick is the number of no process, of which there are `count`.
-    NoSuchProcess { line: u64, pick: u64, count: u32 },
+    /// The file of picks is refused.
+    Schedule(PickRefusal),
     /// An image, a certificate, a trace or a snapshot is refused.
     Evidence(Evidence),
     /// The program can't be scanned in the number of segments requested.
-    Scan(ScanFault),
+    Scan(ScanRefusal),
 }
 
 /// How a command came to its end, with all written that was to be written by then.
@@ -45,29 +50,16 @@ pub enum Refusal {
 pub enum Finish {
     /// All that the command makes was written.
     Done,
-    /// The recorded picks ended while some process could fire.
-    Stopped {
-        fired: u64,
-        idle: u64,
-    },
-    /// This item, counted from 1, came to a trap in the module of this name.
-    Trapped {
-        item: u64,
-        kind: TrapKind,
-        module: Name,
-    },
-    /// All items that the stream gave were run, and it ended so.
-    Stream(Ending),
+    /// The run of the command came to its end so.
+    Run(RunEnd),
     /// The line of this number of a trace is the first that differs from the run.
-    Differs {
-        line: u64,
-    },
+    Differs { line: u64 },
 }
 
 /// How a command ended, with all that its lines say.
 #[derive(Drop)]
 pub enum Verdict {
-    /// Refused, with nothing touched.
+    /// Refused, with nothing touched; by a refusal that says other than that memory ran out.
     Refused(Refusal),
     /// Came to its end, with the numbers of its run where they are to be reported.
     Ended(Finish, Option<Stats>),
@@ -88,9 +80,37 @@ impl Refusal {
             Refusal::Source { .. } => Status(3),
             Refusal::Costs(_) => Status(4),
             Refusal::TooFew { .. } => Status(5),
-            Refusal::BadPick { .. } | Refusal::NoSuchProcess { .. } => Status(12),
+            Refusal::Schedule(_) => Status(12),
             Refusal::Evidence(_) => Status(13),
             Refusal::Scan(_) => Status(15),
+        }
+    }
+
+    /// Returns true exactly if the refusal of a library says that memory ran out.
+    fn is_no_memory(&self) -> bool
+        ensures { result ≡ is_no_memory self.now }
+    {
+        matches!(
+            self,
+            Refusal::Costs(CostRefusal::NoMemory)
+                | Refusal::Schedule(PickRefusal::NoMemory)
+                | Refusal::Evidence(Evidence::Cert(CertRefusal::NoMemory))
+                | Refusal::Evidence(Evidence::Image(ImageRefusal::NoMemory))
+                | Refusal::Evidence(Evidence::Load(LoadRefusal::NoMemory))
+                | Refusal::Evidence(Evidence::Trace(TraceRefusal::NoMemory))
+                | Refusal::Evidence(Evidence::Shot(ShotRefusal::NoMemory))
+        )
+    }
+}
+
+impl From<Refusal> for Verdict {
+    ghost from_gives = { λ refusal v. v ≡ verdict_of refusal };
+
+    fn from(refusal: Refusal) -> Verdict {
+        if refusal.is_no_memory() {
+            Verdict::NoMemory
+        } else {
+            Verdict::Refused(refusal)
         }
     }
 }
@@ -102,11 +122,20 @@ impl Finish {
     {
         match self {
             Finish::Done => Status(0),
-            Finish::Stopped { .. } => Status(1),
-            Finish::Trapped { .. } => Status(7),
-            Finish::Stream(ending) => stream_status(*ending),
+            Finish::Run(end) => end_status(end),
             Finish::Differs { .. } => Status(13),
         }
+    }
+}
+
+/// The status of a run that ended so.
+fn end_status(end: &RunEnd) -> Status
+    ensures { result.0 ≡ end_status end.now }
+{
+    match end {
+        RunEnd::Stopped { .. } => Status(1),
+        RunEnd::Trapped { .. } => Status(7),
+        RunEnd::Stream(ending) => stream_status(*ending),
     }
 }
 

@@ -13,12 +13,12 @@ ghost use Rattle.p3l_rewrite.specs.Ways.{ways_list};
 use crate::farm::{
     FARM, farm_of, farm_with, farms_called, is_among, longer, longer_name, no_clauses,
 };
-use crate::place::{Around, around_main, named_in};
-use p3l_ast::{Call, Entry, Inside, Kind, Module, Program};
-use p3l_base::{List, NoMemory};
 use crate::module::{module, with_inside};
+use crate::place::{Around, around_main, named_in};
 use crate::program::put_entries;
 use crate::{Copied, copies};
+use p3l_ast::{Call, Entry, Inside, Kind, Module, Program};
+use p3l_base::{List, NoMemory};
 use p3l_skel::Tree;
 use p3l_skel::shape::is_sequential;
 use p3l_skel::tree::NESTING;

@@ -5,9 +5,9 @@ ghost use Rattle.p3l_base.specs.Memory.{IfGiven};
 ghost use Rattle.p3l_ast.specs.Tree.{module_tree};
 ghost use Rattle.p3l_rewrite.specs.Candidates.{plain, plain_out, longer, no_clauses, call_with, farm_with, farm_of, is_among, farm_called};
 
+use crate::{Copied, copies};
 use p3l_ast::{Arg, Call, Clauses, Inside, Kind, Module, OutArg, Port, Spot};
 use p3l_base::{List, Name, NoMemory};
-use crate::{Copied, copies};
 use std::alloc::Global;
 
 /// The end of a farm's name, behind its module's name.

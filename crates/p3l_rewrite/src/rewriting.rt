@@ -10,10 +10,10 @@ ghost use Rattle.p3l_rewrite.specs.Rewriting.{IsAccepted, IsBest, StaysBest, May
 ghost use Rattle.p3l_rewrite.specs.Serving.{HasTree, HasMany, MayBeMany};
 
 use crate::candidate::{Ways, find_ways};
+use crate::program::program as copy_of;
 use crate::serving::{accepted_tree, served, service_time};
 use p3l_ast::Program;
 use p3l_base::NoMemory;
-use crate::program::program as copy_of;
 use p3l_cost::Costs;
 use p3l_skel::Tree;
 use std::alloc::Global;

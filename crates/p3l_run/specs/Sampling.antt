@@ -14,8 +14,8 @@ use Rattle.p3l_stream.specs.Seen.{Seen}
 use Rattle.p3l_run.specs.Feed.{Gives}
 use Rattle.p3l_profile.specs.Greatest.{Greatest, noted_all}
 use Rattle.p3l_profile.specs.Law.{notes_of}
-use Rattle.p3l_run.specs.declared.sample.Sampled.{Sampled}
-use Rattle.p3l_run.specs.declared.sample.Sampled.TheVariants as sampled
+use Rattle.p3l_run.specs.declared.sampling.Sampled.{Sampled}
+use Rattle.p3l_run.specs.declared.sampling.Sampled.TheVariants as sampled
 
 -- an outcome is no trap
 abbrev pub IsValue : Outcome → Type 0

@@ -6,10 +6,10 @@ ghost use Rattle.p3l_firing.specs.Typed.{IsTyped};
 ghost use Rattle.p3l_skel.specs.Tree.{node_at};
 ghost use Rattle.p3l_run.specs.Comparison.{FeedsOn, IsUnderWay, PassesOn, Steps, outside, started};
 
+use crate::feed::{INPUT_LIMIT, feed};
 use p3l_base::NoMemory;
 use p3l_io::Source;
 use p3l_net::{Machine, Net};
-use crate::feed::{INPUT_LIMIT, feed};
 use p3l_skel::{Tree, Units};
 use p3l_stream::{Ending, Lines};
 use p3l_trace::{TraceLine, agrees};

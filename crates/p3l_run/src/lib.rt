@@ -17,7 +17,7 @@ pub mod plan;
 pub mod resume;
 pub mod retrace;
 pub mod run;
-pub mod sample;
+pub mod sampling;
 mod sum;
 pub mod write;
 
@@ -29,4 +29,4 @@ pub use in_time::{TimedRan, run_in_time};
 pub use keeping::Keeping;
 pub use plan::Plan;
 pub use run::Ran;
-pub use sample::{Sampled, sample};
+pub use sampling::{Sampled, sample};

@@ -7,11 +7,11 @@ ghost use Rattle.p3l_run.specs.Network.{IsSound, network};
 ghost use Rattle.p3l_run.specs.Wants.{IsWanting};
 ghost use Rattle.p3l_run.specs.Retraced.{IsRetraced};
 
+use crate::Plan;
 use crate::comparison::Comparison;
+use crate::laws::laws;
 use p3l_base::NoMemory;
 use p3l_io::Source;
-use crate::Plan;
-use crate::laws::laws;
 use p3l_skel::Units;
 use p3l_stream::Ending;
 use p3l_stream::laws::a_stream_gives_its_items;

@@ -1,7 +1,7 @@
 -- Tokens in slots: one more, one too many, and all of them in order.
 use Rattle.std.proofs.Common.{◌≡◌, ◌≢◌, ℕ, zero, suc, ◌+◌, ◌-◌, ◌<◌, ◌≤◌, Option, Some, None, is_some, true, false, List, [], ◌∷◌, ◌++◌, map, take, drop, length, get_or, set, replicate, refl, sym, ap, ap₂, ◌∙◌, subst, arith, inl, inr, append-nil, length-append}
 use Rattle.std.proofs.lemmas.Bool.{cases_Bool, cases_eq, cond-true, cond-false, false≢true}
-use Rattle.std.proofs.lemmas.List.{map-append, length-map, length-set, get_or-set_same, get_or-set_other}
+use Rattle.std.proofs.lemmas.List.{map-append, length-map, length-set, get_or-set_same, get_or-set_other, get_or_default}
 use Rattle.p3l_firing.specs.Token.{newest_tag, peeled}
 use Rattle.p3l_firing.specs.declared.token.Token.{Token}
 use Rattle.p3l_template.specs.Bag.{look, read, numbered, IsNumbered}
@@ -28,11 +28,6 @@ out_of_slots xs rest x c n k e is h =
       | inr f ↦ f
     ]
 
-or_same : {A : Type 0} (xs : List A) (i : ℕ) (a b : A) → i < length xs → get_or xs i a ≡ get_or xs i b
-or_same [] i a b l = absurd (omega arith)
-or_same (x ∷ xs) zero a b l = refl
-or_same (x ∷ xs) (suc i) a b l = or_same xs i a b (omega arith)
-
 is_none : (o : Option Token) → is_some o ≡ false → o ≡ None
 is_none None h = refl
 is_none (Some x) h = absurd (false≢true (sym h))
@@ -52,7 +47,7 @@ slot_taken xs rest x c k slots o are e is from below here some =
           let up : c + (k - c) ≡ k = omega (arith, from) in
           let one : length (look k xs) ≡ 1 =
           ap (λ z. length (look z xs)) (sym up) ∙ sym (bares-length (look (c + (k - c)) xs))
-          ∙ ap length (sym (are.each (k - c) below)) ∙ ap (λ z. length (listed z)) (sym (here ∙ or_same slots (k - c) o None below))
+          ∙ ap length (sym (are.each (k - c) below)) ∙ ap (λ z. length (listed z)) (sym (here ∙ get_or_default slots (k - c) o None below))
           ∙ listed_some o some in
           let z = (numbered_to (xs ++ x ∷ rest) c t).once k from (omega (arith, e, below, from)) in
           absurd (omega (arith, z, one, own_count xs x rest k (sym is)))
@@ -83,7 +78,7 @@ slot_filled xs x y c k slots o is from below here free same are = record {
               let up : newest_tag x ≡ c + j = omega (arith, is, e, from) in
               let none : bares (look (c + j) xs) ≡ [] =
               sym (are.each j l)
-              ∙ ap listed (ap (λ n. get_or slots n None) e ∙ sym (here ∙ or_same slots (k - c) o None below) ∙ is_none o free) in
+              ∙ ap listed (ap (λ n. get_or slots n None) e ∙ sym (here ∙ get_or_default slots (k - c) o None below) ∙ is_none o free) in
               ap (λ n. listed (get_or (set slots (k - c) (Some y)) n None)) e
               ∙ ap listed (get_or-set_same slots (k - c) (Some y) None below)
               ∙ ap (λ z. z ∷ []) same

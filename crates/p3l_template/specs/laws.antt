@@ -10,6 +10,7 @@ pub mod BagLaw
 pub mod BareLaw
 pub mod Inside
 pub mod Fan
+pub mod FanSize
 pub mod RunLaw
 pub mod RunTyping
 pub mod RunFound

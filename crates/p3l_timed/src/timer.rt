@@ -10,13 +10,13 @@ ghost use Rattle.p3l_timed.specs.Clock.{HasFired, IsBusiest, IsRenewed, IsStarte
 ghost use Rattle.p3l_timed.specs.Due.{IsNext};
 ghost use Rattle.p3l_timed.specs.Price.{counted_prices, price_at};
 
+use crate::Moments;
 use crate::greatest::greatest;
 use crate::look::{look, look_after, look_at_all};
 use crate::price::prices;
 use p3l_base::NoMemory;
 use p3l_cost::Costs;
 use p3l_firing::Net;
-use crate::Moments;
 use p3l_net::Machine;
 use p3l_skel::Tree;
 use std::alloc::Global;

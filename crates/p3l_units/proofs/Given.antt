@@ -1,5 +1,5 @@
 -- The one outcome that a call gives, unless a request for memory was refused.
-use Rattle.std.proofs.Common.{◌≡◌, Result, Ok, Err, IfOk, ◌∙◌, sym, subst}
+use Rattle.std.proofs.Common.{◌≡◌, Result, Ok, Err, ◌∙◌}
 use Rattle.p3l_base.specs.declared.NoMemory.{NoMemory}
 use Rattle.p3l_base.specs.declared.outcome.Outcome.{Outcome}
 use Rattle.p3l_base.specs.Memory.{IfGiven}
@@ -8,8 +8,3 @@ use Rattle.p3l_base.specs.Memory.{IfGiven}
 pub given-same : (r : Result Outcome NoMemory) (x y : Outcome) → x ≡ y → IfGiven r (λ o. o ≡ x) → IfGiven r (λ o. o ≡ y)
 given-same (Ok o) x y same is = is ∙ same
 given-same (Err e) x y same refused = refused
-
--- what holds of the one outcome that a call may give
-pub given-along : (P : Outcome → Type 0) (r : Result Outcome NoMemory) (x : Outcome) → P x → IfGiven r (λ o. o ≡ x) → IfOk r P
-given-along P (Ok o) x holds is = subst P (sym is) holds
-given-along P (Err e) x holds refused = tt

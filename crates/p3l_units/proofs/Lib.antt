@@ -1,4 +1,3 @@
-pub mod Sequential
 pub mod Places
 pub mod Body
 pub mod Given

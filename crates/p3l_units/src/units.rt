@@ -1,9 +1,9 @@
 // Tables of units run the sequential nodes of a tree.
 
-use crate::node::node_outcome;
 use crate::table::UnitTable;
 use p3l_base::{NoMemory, Outcome, Words};
 use p3l_skel::Units;
+use p3l_walk::item_outcome;
 use std::alloc::Global;
 
 impl<'t> Units for UnitTable<'t> {
@@ -24,7 +24,7 @@ impl<'t> Units for UnitTable<'t> {
     fn run(&self, alloc: Global, node: u32, words: &Words) -> Result<Outcome, NoMemory> {
         match self.bare_code(node) {
             Some((code, module)) => code.run(alloc, module, words),
-            None => node_outcome(alloc, self.tree(), self, node, words),
+            None => item_outcome(alloc, self.tree(), self, &mut (), node, words),
         }
     }
 }

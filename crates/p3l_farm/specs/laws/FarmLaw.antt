@@ -4,7 +4,7 @@
 use Rattle.std.proofs.Common.{◌≡◌, ℕ, zero, suc, ◌+◌, ◌-◌, ◌*◌, ◌≤◌, ◌<◌, ◌≢◌, inl, inr, ◌&&◌, Bool, true, false, Some, is_some, List, [], ◌∷◌, ◌++◌, map, length, get_or, refl, sym, ap, ap₂, ◌∙◌, subst, arith, append_assoc, length-append, le_refl, eqb-true, slice_get}
 use Rattle.std.proofs.lemmas.Bool.{and_parts, and_from, cases_Bool}
 use Rattle.std.proofs.lemmas.List.{map-append}
-use Rattle.p3l_farm.specs.Farm.{rising, all_rising, joined, to_come, well_kept, lines_of, dues, emit_proc, collect_proc, view_of, farmed, farm_part, farm_shape}
+use Rattle.p3l_farm.specs.Farm.{rising, all_rising, joined, to_come, well_kept, lines_of, emit_proc, collect_proc, view_of, farmed, farm_part, farm_shape}
 use Rattle.p3l_firing.proofs.ChoiceLaw.{emptiest_is, due_in_is}
 use Rattle.p3l_farm.specs.laws.ViewLaw.{change, view_line, Kept, kept_to, kept_from, Goes, none_ready, each_empty, emit_view, emit_goes, collect_view, collect_goes}
 use Rattle.p3l_firing.specs.Fire.{row_can, can_fire}
@@ -18,22 +18,25 @@ use Rattle.p3l_firing.specs.declared.token.Token.{Token}
 use Rattle.p3l_firing.specs.kinds.Collect.{front_is, due_in, taken_from}
 use Rattle.p3l_firing.specs.kinds.Emit.{emptiest, sent_to}
 use Rattle.p3l_template.specs.Bag.{read, IsNumbered}
-use Rattle.p3l_template.specs.Part.{Part, IsLawfulPart, IsSized, in_channels, inside, line, IsInside, IsSameInside, IsAlike, Moves, OneFired, no_part, all_orderly, IsFresh, Begins, IsDrained, due}
-use Rattle.p3l_template.specs.Placed.{IsLawfulShape, IsPlaced, AreChained}
-use Rattle.p3l_template.specs.Shape.{Role, Base, numbers_from, fan_seats}
+use Rattle.p3l_template.specs.Part.{Part, IsLawfulPart, IsSized, inside, line, IsInside, IsSameInside, IsAlike, Moves, OneFired, no_part, all_orderly, IsFresh, Begins, IsDrained, due}
+use Rattle.p3l_template.specs.Placed.{IsLawfulShape, IsPlaced}
+use Rattle.p3l_template.specs.Shape.{Role, Base, numbers_from}
+use Rattle.p3l_template.specs.Sum.{sum_of}
 use Rattle.p3l_template.specs.Units.{Units}
 use Rattle.p3l_template.specs.laws.BagLaw.{look_empty, read_length}
 use Rattle.p3l_template.specs.laws.Chain.{all_same, all_kept, all_at, all_from}
 use Rattle.p3l_template.specs.laws.Fan.{Fan, fan_of, Around, around_moves, one_moves, same_alike, each_begins, fan_empty, fan_fires, fan_drained, fan_lawful}
-use Rattle.p3l_template.specs.laws.Inside.{insides, channels_split, around_inside, times_le, line_length}
+use Rattle.p3l_template.specs.laws.FanSize.{worker_holds, fan_inside, lines_bound, dues_bound}
+use Rattle.p3l_template.specs.laws.Inside.{times_le}
 use Rattle.p3l_template.specs.laws.Lists.{append_none, map_none, rest_append}
 use Rattle.p3l_template.specs.laws.Row.{numbers_length, numbers_at, stands_two}
 use Rattle.p3l_template.specs.laws.Rows.{front, way_at, cannot_at, emptied, and_right_true, room_when_empty}
+use Rattle.p3l_template.specs.laws.SumLaw.{sum_same, sum_none, sum_change, sum_add, sum_up}
 use Rattle.p3l_template.specs.laws.Touch.{passed, passed_in, passed_out, passed_other, passed_count, passed_own, passed_unsent, passed_sent, passed_emitted}
 use Rattle.p3l_firing.specs.kinds.Emit as emit
 use Rattle.p3l_firing.specs.kinds.Collect as collect
 
--- LINES AND DUES
+-- THE LINES
 lines_length : (Ps : List Part) (s : State) → length (lines_of Ps s) ≡ length Ps
 unfolding lines_of
 lines_length [] s = refl
@@ -66,30 +69,6 @@ lines_change (P ∷ Ps) s t (suc w) f l e h =
     ap₂ (λ x y. x ∷ y) (h 0 (omega arith) (λ d. omega (arith, d)))
     (lines_change Ps s t w f (omega arith) e (λ v k n. h (suc v) (omega arith) (λ d. n (omega (arith, d)))))
 
-dues_same : (Ps : List Part) (s t : State) →
-    ((w : ℕ) → w < length Ps → due (get_or Ps w no_part) t ≡ due (get_or Ps w no_part) s) → dues Ps t ≡ dues Ps s
-unfolding dues
-dues_same [] s t h = refl
-dues_same (P ∷ Ps) s t h = ap₂ (λ x y. x + y) (h 0 (omega arith)) (dues_same Ps s t (λ w l. h (suc w) (omega arith)))
-
-dues_change : (Ps : List Part) (s t : State) (w : ℕ) → w < length Ps →
-    ((v : ℕ) → v < length Ps → v ≢ w → due (get_or Ps v no_part) t ≡ due (get_or Ps v no_part) s) →
-    dues Ps t + due (get_or Ps w no_part) s ≡ dues Ps s + due (get_or Ps w no_part) t
-unfolding dues
-dues_change [] s t w l h = absurd (omega arith)
-dues_change (P ∷ Ps) s t zero l h = let r = dues_same Ps s t (λ v k. h (suc v) (omega arith) (λ d. omega (arith, d))) in
-    omega (arith, r)
-dues_change (P ∷ Ps) s t (suc w) l h =
-    let a = h 0 (omega arith) (λ d. omega (arith, d)) in
-    let r = dues_change Ps s t w (omega arith) (λ v k n. h (suc v) (omega arith) (λ d. n (omega (arith, d)))) in
-    omega (arith, a, r)
-
-none_due : (Ps : List Part) (s : State) → ((w : ℕ) → w < length Ps → due (get_or Ps w no_part) s ≡ 0) → dues Ps s ≡ 0
-unfolding dues
-none_due [] s h = refl
-none_due (P ∷ Ps) s h = let a = h 0 (omega arith) in let r = none_due Ps s (λ w l. h (suc w) (omega arith)) in
-    omega (arith, a, r)
-
 none_joined : (Ps : List Part) (s : State) → ((w : ℕ) → w < length Ps → line (get_or Ps w no_part) s ≡ []) →
     (joined (lines_of Ps s) ≡ []) × (all_rising (lines_of Ps s) ≡ true)
 unfolding lines_of joined all_rising rising
@@ -113,49 +92,15 @@ unfolding front_is
 front_none c = refl
 
 -- THE SIZE
--- the tokens in the channels of the workers
-unfoldable seats_hold : List Part → State → ℕ
-seats_hold [] s = 0
-seats_hold (P ∷ Ps) s = (length (s.tokens P.input) + length (s.tokens P.output)) + seats_hold Ps s
-
-seats_all : (net : Net) (units : Units) (roles : ℕ → Role) (p c i o n : ℕ) (Ps : List Part) →
-    AreChained net units roles p c (fan_seats i o n) Ps → (s : State) →
-    seats_hold Ps s ≡ in_channels s i n + in_channels s o n
-unfolding AreChained fan_seats seats_hold in_channels
-seats_all net units roles p c i o zero [] h s = refl
-seats_all net units roles p c i o zero (P ∷ Ps) h s = absurd h
-seats_all net units roles p c i o (suc n) [] h s = absurd h
-seats_all net units roles p c i o (suc n) (P ∷ Ps) h s =
-    let a = ap (λ z. length (s.tokens z)) h.0.input in
-    let b = ap (λ z. length (s.tokens z)) h.0.output in
-    let r = seats_all net units roles P.proc_to P.chan_to (suc i) (suc o) n Ps h.1 s in
-    omega (arith, a, b, r)
-
-lines_bound : (Ps : List Part) (s : State) → ((w : ℕ) → w < length Ps → IsSized (get_or Ps w no_part) s) →
-    length (joined (lines_of Ps s)) ≤ seats_hold Ps s + insides Ps s
-unfolding joined lines_of seats_hold insides
-lines_bound [] s h = omega arith
-lines_bound (P ∷ Ps) s h =
+-- the tokens of all lines
+joined_length : (Ps : List Part) (s : State) →
+    length (joined (lines_of Ps s)) ≡ sum_of (λ w. length (line (get_or Ps w no_part) s)) (length Ps)
+unfolding joined lines_of sum_of
+joined_length [] s = refl
+joined_length (P ∷ Ps) s =
     let a = length-append (line P s) (joined (lines_of Ps s)) in
-    let r = lines_bound Ps s (λ w l. h (suc w) (omega arith)) in
-    omega (arith, a, line_length P s, r, (h 0 (omega arith)).pending)
-
-dues_bound : (f : ℕ) (Ps : List Part) (s : State) → ((w : ℕ) → w < length Ps → (get_or Ps w no_part).firings ≡ f) →
-    ((w : ℕ) → w < length Ps → IsSized (get_or Ps w no_part) s) →
-    dues Ps s + length (joined (lines_of Ps s)) ≤ (2 + f) * (seats_hold Ps s + insides Ps s)
-unfolding dues due joined lines_of seats_hold insides
-dues_bound f [] s e h = omega arith
-dues_bound f (P ∷ Ps) s e h =
-    let z = h 0 (omega arith) in
-    let a = length-append (line P s) (joined (lines_of Ps s)) in
-    let b = ap (λ y. y * length (s.tokens P.input)) (e 0 (omega arith)) in
-    let c = ap (λ y. y * inside P s) (e 0 (omega arith)) in
-    let r = dues_bound f Ps s (λ w l. e (suc w) (omega arith)) (λ w l. h (suc w) (omega arith)) in
-    let d : (2 + f)
-    * (((length (s.tokens P.input) + length (s.tokens P.output)) + seats_hold Ps s) + (inside P s + insides Ps s))
-    ≡ ((2 + f) * length (s.tokens P.input) + (2 + f) * length (s.tokens P.output))
-    + ((2 + f) * inside P s + (2 + f) * (seats_hold Ps s + insides Ps s)) = omega arith in
-    omega (arith, a, b, c, d, r, line_length P s, z.pending, z.owed)
+    let b = sum_up (λ w. length (line (get_or (P ∷ Ps) w no_part) s)) (length Ps) in
+    omega (arith, a, b, joined_length Ps s)
 
 -- THE WORK
 emit_falls : (f a x y z d e c : ℕ) → c ≤ e → x ≡ suc a → y + d ≡ z + (d + f) →
@@ -177,13 +122,20 @@ module _ (net : Net) (units : Units) (roles : ℕ → Role) (node n : ℕ) (pos 
   fan : Fan net units roles n base Ps
   fan = fan_of net units roles n base Ps placed.good placed.inner
 
+  -- the work that is left in the workers
+  abbrev needs : State → ℕ → ℕ
+  needs s w = due (get_or Ps w no_part) s
+
+  abbrev dues : State → ℕ
+  dues s = sum_of (needs s) n
+
   view_is : (t : State) (e c : ℕ) (ls : List (List Token)) (i o : List Token) → (t.own base.proc).number ≡ e →
       (t.own (base.proc + 1)).number ≡ c → lines_of Ps t ≡ ls → t.tokens base.input ≡ i → t.tokens base.output ≡ o →
       view_of base Ps t ≡ record { next = e; least = c; lines = ls; input = i; output = o }
   view_is t e c ls i o e1 e2 e3 e4 e5 = λ j.
       record { next = e1 j; least = e2 j; lines = e3 j; input = e4 j; output = e5 j }
 
-  all_due : (t : State) (a y e c : ℕ) → length (t.tokens base.input) ≡ a → dues Ps t ≡ y → (t.own base.proc).number ≡ e →
+  all_due : (t : State) (a y e c : ℕ) → length (t.tokens base.input) ≡ a → dues t ≡ y → (t.own base.proc).number ≡ e →
       (t.own (base.proc + 1)).number ≡ c →
       due (farm_part n units roles base Ps) t ≡ (2 + (roles 0).firings) * a + (y + (e - c))
   unfolding due
@@ -197,7 +149,7 @@ module _ (net : Net) (units : Units) (roles : ℕ → Role) (node n : ℕ) (pos 
   farm_reads : (s t : State) → IsSameInside (farm_part n units roles base Ps) s t → IsAlike (farm_part n units roles base Ps) s t
   unfolding to_come well_kept
   farm_reads s t same =
-      let alike = same_alike net units roles n base Ps fan farmed s t same in
+      let alike = same_alike net units roles n base Ps fan (farmed n) s t same in
       let ch : (c : ℕ) → base.chan ≤ c → c < base.chan + (n + n) → t.tokens c ≡ s.tokens c = λ c f l.
       same.tokens c f (omega (arith, l, fan.all.chans)) in
       let e : t.own base.proc ≡ s.own base.proc = same.own base.proc (le_refl _) (omega (arith, fan.all.procs)) in
@@ -209,9 +161,8 @@ module _ (net : Net) (units : Units) (roles : ℕ → Role) (node n : ℕ) (pos 
       fan.line_kept s t w l (ch _ (omega arith) (omega (arith, l))) (ch _ (omega arith) (omega (arith, l)))
       (alike w l).pending) in
       let ds =
-      dues_same Ps s t
-      (λ w k. let l = fan.all.below w k in
-      fan.due_kept s t w l (ch _ (omega arith) (omega (arith, l))) (alike w l).owed) in
+      sum_same (needs s) (needs t) n
+      (λ w l. fan.due_kept s t w l (ch _ (omega arith) (omega (arith, l))) (alike w l).owed) in
       record {
         pending = λ i.
             to_come (record {
@@ -247,9 +198,9 @@ module _ (net : Net) (units : Units) (roles : ℕ → Role) (node n : ℕ) (pos 
   farm_begins : (s : State) → IsFresh net (farm_part n units roles base Ps) s → Begins (farm_part n units roles base Ps) s
   unfolding to_come read
   farm_begins s fresh =
-      let each = each_begins net units roles n base Ps fan farmed s fresh in
+      let each = each_begins net units roles n base Ps fan (farmed n) s fresh in
       let ch =
-      fan_empty net units roles n base Ps fan farmed placed.cap placed.laid s fresh in
+      fan_empty net units roles n base Ps fan (farmed n) placed.cap placed.laid s fresh in
       let e : (s.own base.proc).number ≡ 0 =
       ap (λ o. o.number) (fresh.own base.proc (le_refl _) (omega (arith, fan.all.procs))) in
       let c : (s.own (base.proc + 1)).number ≡ 0 =
@@ -258,8 +209,8 @@ module _ (net : Net) (units : Units) (roles : ℕ → Role) (node n : ℕ) (pos 
       (λ w k. let l = fan.all.below w k in
       fan.line_is s w [] [] [] l (ch _ (omega arith) (omega (arith, l))) (each w l).pending
       (ch _ (omega arith) (omega (arith, l)))) in
-      let d : dues Ps s ≡ 0 =
-      none_due Ps s (λ w k. let l = fan.all.below w k in
+      let d : dues s ≡ 0 =
+      sum_none (needs s) n (λ w l.
       fan.due_is s w 0 0 l (ap length (ch _ (omega arith) (omega (arith, l)))) (each w l).owed ∙ omega arith) in
       let v = view_is s 0 0 _ _ _ e c refl refl refl in
       record {
@@ -351,14 +302,13 @@ module _ (net : Net) (units : Units) (roles : ℕ → Role) (node n : ℕ) (pos 
         (emit_other _ (λ e. omega (arith, e, placed.good.input)) (λ e. omega (arith, e, low)))
         (fan.alike s _ emit_around v l).pending)
 
-    emit_dues : dues Ps (emit_state w s)
+    emit_dues : dues (emit_state w s)
         + ((roles 0).firings * length (s.tokens (base.chan + w)) + (get_or Ps w no_part).owed s)
-        ≡ dues Ps s + (((roles 0).firings * length (s.tokens (base.chan + w)) + (get_or Ps w no_part).owed s)
+        ≡ dues s + (((roles 0).firings * length (s.tokens (base.chan + w)) + (get_or Ps w no_part).owed s)
         + (roles 0).firings)
     emit_dues =
-        let r = dues_change Ps s (emit_state w s) w (fan.all.within w low)
-        (λ v k ne. let l = fan.all.below v k in
-        fan.due_kept s _ v l (emit_other _ (λ e. omega (arith, e, placed.good.input)) (λ e. ne (omega (arith, e))))
+        let r = sum_change (needs s) (needs (emit_state w s)) n w low
+        (λ v l ne. fan.due_kept s _ v l (emit_other _ (λ e. omega (arith, e, placed.good.input)) (λ e. ne (omega (arith, e))))
         (fan.alike s _ emit_around v l).owed) in
         let a = fan.due_is s w _ _ low refl refl in
         let b = fan.due_is (emit_state w s) w _ _ low (ap length emit_out ∙ length-append (s.tokens (base.chan + w)) _)
@@ -446,11 +396,10 @@ module _ (net : Net) (units : Units) (roles : ℕ → Role) (node n : ℕ) (pos 
         (collect_other _ (λ e. ne (omega (arith, e))) (λ e. omega (arith, e, placed.good.output)))
         (fan.alike s _ collect_around v l).pending)
 
-    collect_dues : dues Ps (collect_state w s) ≡ dues Ps s
+    collect_dues : dues (collect_state w s) ≡ dues s
     collect_dues =
-        dues_same Ps s _
-        (λ v k. let l = fan.all.below v k in
-        fan.due_kept s _ v l (collect_to v l) (fan.alike s _ collect_around v l).owed)
+        sum_same (needs s) (needs (collect_state w s)) n
+        (λ v l. fan.due_kept s _ v l (collect_to v l) (fan.alike s _ collect_around v l).owed)
 
     collect_right : all_orderly Ps s ≡ true → Kept (view_of base Ps s) →
         front_is (s.own (base.proc + 1)).number (s.tokens (base.chan + n + w)) ≡ true → Right s (collect_state w s)
@@ -531,7 +480,7 @@ module _ (net : Net) (units : Units) (roles : ℕ → Role) (node n : ℕ) (pos 
           let i = fan.input s t one in
           let u = fan.output s t one in
           let ls = lines_same Ps s t (λ w q. fan.lines s t one o w (fan.all.below w q)) in
-          let ds = dues_change Ps s t one.which one.below (λ w q. fan.dues s t one w (fan.all.below w q)) in
+          let ds = sum_change (needs s) (needs t) n one.which (fan.all.below one.which one.below) (fan.dues s t one) in
           let v : view_of base Ps t ≡ view_of base Ps s = view_is t _ _ _ _ _ e c ls i u in
           record {
             parts = all_kept Ps s t one o;
@@ -545,18 +494,18 @@ module _ (net : Net) (units : Units) (roles : ℕ → Role) (node n : ℕ) (pos 
       Moves (farm_part n units roles base Ps) s t
   farm_moves s t p i way =
       let P = farm_part n units roles base Ps in
-      let own = around_moves net units roles n base Ps fan farmed s in
-      fan_fires net units roles n base Ps fan farmed s t p i way (Moves P s t)
+      let own = around_moves net units roles n base Ps fan (farmed n) s in
+      fan_fires net units roles n base Ps fan (farmed n) s t p i way (Moves P s t)
       (emit_goes_to s t (Moves P s) (λ w l _. own _ (emit_around s w l)))
       (collect_goes_to s t (Moves P s) (λ w l _. own _ (collect_around s w l)))
-      (one_moves net units roles n base Ps fan farmed s t)
+      (one_moves net units roles n base Ps fan (farmed n) s t)
 
   farm_right : (s t : State) (p : ℕ) → IsInside (farm_part n units roles base Ps) p → MayFire units.tree units.leaf net s p t →
       (farm_part n units roles base Ps).orderly s ≡ true → Right s t
   farm_right s t p i way h =
       let a = and_parts (all_orderly Ps s) (well_kept (view_of base Ps s)) h in
       let k = kept_to (view_of base Ps s) a.1 in
-      fan_fires net units roles n base Ps fan farmed s t p i way (Right s t)
+      fan_fires net units roles n base Ps fan (farmed n) s t p i way (Right s t)
       (emit_goes_to s t (Right s) (λ w l full. emit_right s w l a.0 k full))
       (collect_goes_to s t (Right s) (λ w l f. collect_right s w l a.0 k f)) (λ one. worker_right s t one a.0 k)
 
@@ -591,7 +540,7 @@ module _ (net : Net) (units : Units) (roles : ℕ → Role) (node n : ℕ) (pos 
 
     worker_drained : (w : ℕ) → w < n → s.tokens (base.chan + n + w) ≡ [] → IsDrained (get_or Ps w no_part) s
     worker_drained =
-        fan_drained net units roles n base Ps fan farmed s placed.chans parts_orderly quiet calm
+        fan_drained net units roles n base Ps fan (farmed n) s placed.chans parts_orderly quiet calm
 
     -- no line begins with the number that is expected
     no_line : (w : ℕ) → w < n → front_is (s.own (base.proc + 1)).number (line (get_or Ps w no_part) s) ≡ false
@@ -645,24 +594,22 @@ module _ (net : Net) (units : Units) (roles : ℕ → Role) (node n : ℕ) (pos 
         record { input = emit_waits; pending = ap (λ z. read z (s.own (base.proc + 1)).number (length z)) no_token }
 
   farm_size : (s : State) → (farm_part n units roles base Ps).orderly s ≡ true → IsSized (farm_part n units roles base Ps) s
-  unfolding inside to_come
+  unfolding to_come
   farm_size s h =
       let a = and_parts (all_orderly Ps s) (well_kept (view_of base Ps s)) h in
       let k = kept_to (view_of base Ps s) a.1 in
-      let each : (w : ℕ) → w < length Ps → IsSized (get_or Ps w no_part) s = λ w l.
-      (fan.all.lawful w (fan.all.below w l)).size s (all_at Ps s a.0 w l) in
-      let b = lines_bound Ps s each in
-      let d = dues_bound (roles 0).firings Ps s (λ w l. fan.all.firings w (fan.all.below w l)) each in
-      let i = around_inside net units roles base.proc base.chan 2 (n + n) _ Ps placed.inner s in
-      let c = channels_split s base.chan n n in
-      let p = seats_all net units roles (base.proc + 2) (base.chan + (n + n)) base.chan
-      (base.chan + n) n Ps placed.inner s in
-      let m = times_le (2 + (roles 0).firings) (seats_hold Ps s + insides Ps s) (inside (farm_part n units roles base Ps) s)
-      (omega (arith, i, c, p)) in
+      let all : ℕ = sum_of (worker_holds net units roles n base Ps fan s) n in
+      let b = lines_bound net units roles n base Ps fan s a.0 in
+      let d = dues_bound net units roles n base Ps fan s a.0 in
+      let e = sum_add (needs s) (λ w. length (line (get_or Ps w no_part) s)) n in
+      let i = fan_inside net units roles n base Ps fan s (farmed n) in
+      let j = joined_length Ps s ∙ ap (sum_of (λ w. length (line (get_or Ps w no_part) s))) fan.all.count in
+      let m = times_le (1 + (roles 0).firings) all (inside (farm_part n units roles base Ps) s) (omega (arith, i)) in
+      let o : (2 + (roles 0).firings) * inside (farm_part n units roles base Ps) s
+      ≡ (1 + (roles 0).firings) * inside (farm_part n units roles base Ps) s + inside (farm_part n units roles base Ps) s = omega arith in
       record {
-        owed = omega (arith, d, k.count, m);
-        pending =
-            omega (arith, read_length (joined (lines_of Ps s)) (s.own (base.proc + 1)).number k.numbered, b, i, c, p);
+        owed = omega (arith, d, e, j, k.count, m, o);
+        pending = omega (arith, read_length (joined (lines_of Ps s)) (s.own (base.proc + 1)).number k.numbered, b, i, j);
       }
 
   farm_law : IsLawfulPart net units (farm_part n units roles base Ps)
@@ -685,5 +632,5 @@ module _ (net : Net) (units : Units) (roles : ℕ → Role) (node n : ℕ) (pos 
 
 pub farm_lawful : (node n : ℕ) → 0 < n → IsLawfulShape (farm_shape node n)
 farm_lawful node n pos =
-    fan_lawful Emit Collect node n farmed pos
+    fan_lawful Emit Collect node n (farmed n) pos
     (λ net units roles base parts placed. farm_law net units roles node n pos base parts placed)

@@ -18,7 +18,7 @@ farm_typed : (tree : Tree) (node n : ℕ) (workers : Option ℕ) → node < leng
     HasWords tree (part_at tree node 0) (node_at tree node).ins (node_at tree node).outs →
     IsTypedShape tree node (farm_shape node n)
 farm_typed tree node n workers there form count part =
-    fan_typed tree node n Emit Collect farmed (node_at tree node).ins (node_at tree node).outs 1 (omega arith)
+    fan_typed tree node n Emit Collect (farmed n) (node_at tree node).ins (node_at tree node).outs 1 (omega arith)
     tt tt part.takes part.gives
     (λ w base t input output to_workers from_workers. (
       record {

@@ -22,7 +22,8 @@ use Rattle.p3l_template.specs.Part.{Part, IsLawfulPart, IsSized, in_channels, in
 use Rattle.p3l_template.specs.Placed.{IsLawfulShape, LiesAt, IsGoodSeat, IsPlaced, AreLaid, HaveRoom, IsSeated, AreStanding, AreChained, proc_end, chan_end}
 use Rattle.p3l_template.specs.Shape.{empty_chan, Role, Base, no_seat}
 use Rattle.p3l_template.specs.Units.{Units}
-use Rattle.p3l_template.specs.laws.BagLaw.{none_left, without_count, read_length}
+use Rattle.p3l_template.specs.laws.BagLaw.{without_count, read_length}
+use Rattle.p3l_template.specs.laws.Lists.{none_left}
 use Rattle.p3l_template.specs.laws.Inside.{channels_from, hands_from}
 use Rattle.p3l_template.specs.laws.Rows.{at-other, front, way_at, cannot_at, emptied, room_when_empty, and_left_true, and_right_true}
 use Rattle.p3l_template.specs.laws.Touch.{pop_same, pop_other, push_same, push_other, set_tokens, own_same, own_other, pop_own, push_own}

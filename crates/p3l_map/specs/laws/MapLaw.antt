@@ -1,7 +1,7 @@
 -- THE LAW OF THE MAP (`map_lawful`): any number of workers but 0, round any lawful parts, for any number of pieces.
 -- The pieces of an item go to the workers by turns and come back by turns, and each group is joined to one outcome:
 -- the items leave in order, each as the map of its pieces.
-use Rattle.std.proofs.Common.{◌≡◌, ℕ, zero, suc, ◌+◌, ◌-◌, ◌%◌, ◌≤◌, ◌<◌, ◌≢◌, inl, inr, ◌&&◌, cond, nat_lt, true, false, List, [], ◌∷◌, ◌++◌, map, length, get_or, refl, sym, ap, ap₂, ◌∙◌, subst, arith, append_assoc, le_refl, length-append, mod-lt, slice_get, Some, ltb-true, ◌*◌, ltb-false}
+use Rattle.std.proofs.Common.{◌≡◌, ℕ, zero, suc, ◌+◌, ◌-◌, ◌%◌, ◌<◌, ◌≢◌, inl, inr, ◌&&◌, cond, nat_lt, true, false, List, [], ◌∷◌, ◌++◌, map, length, get_or, refl, sym, ap, ap₂, ◌∙◌, subst, arith, append_assoc, le_refl, length-append, mod-lt, slice_get, Some, ltb-true, ◌*◌, ltb-false}
 use Rattle.std.proofs.Math.Nat.{mod-eq_of_lt}
 use Rattle.std.proofs.lemmas.Bool.{cases_Bool, and_parts, and_from, cases_eq, cond-true, cond-false}
 use Rattle.std.proofs.lemmas.List.{map-append, length-map}
@@ -23,18 +23,19 @@ use Rattle.p3l_map.specs.laws.MapView.{view_line, Kept, kept_to, kept_from, Goes
 use Rattle.p3l_map.specs.laws.Near.{near, near-way, near-turns, near-whole, near-come, near-kept}
 use Rattle.p3l_map.specs.laws.SizeLaw.{total_sum, come_bound, le_times, all_bound}
 use Rattle.p3l_map.specs.laws.Turns.{all_empty_at, all_empty_from}
-use Rattle.p3l_template.specs.Part.{Part, IsLawfulPart, IsSized, in_hands, inside, line, IsInside, IsSameInside, IsAlike, Moves, Keeps, OneFired, no_part, all_orderly, IsFresh, Begins, IsDrained, due}
+use Rattle.p3l_template.specs.Part.{Part, IsLawfulPart, IsSized, inside, line, IsInside, IsSameInside, IsAlike, Moves, Keeps, OneFired, no_part, all_orderly, IsFresh, Begins, IsDrained, due}
 use Rattle.p3l_template.specs.Placed.{IsLawfulShape, IsPlaced}
 use Rattle.p3l_template.specs.Shape.{Role, Base, numbers_from}
 use Rattle.p3l_template.specs.Sum.{sum_of}
 use Rattle.p3l_template.specs.Units.{Units}
 use Rattle.p3l_template.specs.laws.Chain.{all_same, all_kept, all_at, all_from}
 use Rattle.p3l_template.specs.laws.Fan.{Fan, fan_of, Around, around_moves, one_moves, same_alike, each_begins, fan_empty, fan_fires, fan_drained, fan_lawful}
-use Rattle.p3l_template.specs.laws.Inside.{channels_split, around_inside, times_le, line_length, channels_sum, insides_sum}
+use Rattle.p3l_template.specs.laws.FanSize.{worker_holds, fan_inside, lines_bound, dues_bound}
+use Rattle.p3l_template.specs.laws.Inside.{times_le}
 use Rattle.p3l_template.specs.laws.Lists.{none_left}
 use Rattle.p3l_template.specs.laws.Row.{numbers_length, numbers_at, stands_two}
 use Rattle.p3l_template.specs.laws.Rows.{at-same, at-other, front, fire_at, can_at, strict_at, cannot_at, emptied, room_when_empty}
-use Rattle.p3l_template.specs.laws.SumLaw.{sum_same, sum_none, sum_change, sum_le, sum_times, sum_add}
+use Rattle.p3l_template.specs.laws.SumLaw.{sum_same, sum_none, sum_change}
 use Rattle.p3l_template.specs.laws.Touch.{pop_same, pop_other, push_same, push_other, set_tokens, own_same, own_other, pop_own, push_own}
 use Rattle.p3l_firing.specs.kinds.Scatter as scatter
 use Rattle.p3l_firing.specs.kinds.Gather as gather
@@ -1166,72 +1167,18 @@ module _ (net : Net) (units : Units) (roles : ℕ → Role) (node n : ℕ) (pos 
       }
 
   -- SIZE
-  map_inside : (s : State) →
-      inside (map_part units node n roles base Ps) s
-      ≡ (length (s.own base.proc).held + length (s.own (base.proc + 1)).held)
-      + sum_of (λ w. (length (s.tokens (base.chan + w)) + length (s.tokens (base.chan + n + w)))
-      + inside (get_or Ps w no_part) s) n
-  unfolding inside in_hands
-  map_inside s =
-      let i = around_inside net units roles base.proc base.chan 2 (n + n) _ Ps placed.inner s in
-      let c = channels_split s base.chan n n in
-      let a = sum_add (λ w. length (s.tokens (base.chan + w)) + length (s.tokens (base.chan + n + w)))
-      (λ w. inside (get_or Ps w no_part) s) n in
-      let b = sum_add (λ w. length (s.tokens (base.chan + w))) (λ w. length (s.tokens (base.chan + n + w))) n in
-      let d = channels_sum s base.chan n in
-      let e = channels_sum s (base.chan + n) n in
-      let f = insides_sum Ps s ∙ ap (sum_of (λ w. inside (get_or Ps w no_part) s)) fan.all.count in
-      let o : length (s.own (suc base.proc)).held ≡ length (s.own (base.proc + 1)).held =
-      ap (λ x. length (s.own x).held) (omega arith) in
-      omega (arith, i, c, a, b, d, e, f, o)
-
   map_size : (s : State) → (map_part units node n roles base Ps).orderly s ≡ true →
       IsSized (map_part units node n roles base Ps) s
-  unfolding due
   map_size s h =
       let a = and_parts (well_kept (pieces_of units node n (roles 0).meaning) (view_of base Ps s))
       (all_orderly Ps s) h in
       let k = kept_to (pieces_of units node n (roles 0).meaning) (view_of base Ps s) a.0 in
-      let each : (w : ℕ) → w < n → IsSized (get_or Ps w no_part) s = λ w l.
-      (fan.all.lawful w l).size s (all_at Ps s a.1 w (omega (arith, l, fan.all.count))) in
-      let long : (w : ℕ) → w < n →
-      length (lines_of Ps s w)
-      ≤ (length (s.tokens (base.chan + w)) + length (s.tokens (base.chan + n + w))) + inside (get_or Ps w no_part) s =
-      λ w l. let x = ap (λ z. length (s.tokens z)) (fan.all.input w l) in
-      let y = ap (λ z. length (s.tokens z)) (fan.all.output w l) in
-      omega (arith, line_length (get_or Ps w no_part) s, x, y, (each w l).pending) in
-      let need : (w : ℕ) → w < n →
-      due (get_or Ps w no_part) s + length (lines_of Ps s w)
-      ≤ (1 + (roles 0).firings)
-      * ((length (s.tokens (base.chan + w)) + length (s.tokens (base.chan + n + w))) + inside (get_or Ps w no_part) s) =
-      λ w l.
-      let x = ap₂ (λ y z. y * length (s.tokens z)) (fan.all.firings w l) (fan.all.input w l) in
-      let y = ap (λ z. z * inside (get_or Ps w no_part) s) (fan.all.firings w l) in
-      let z : (1 + (roles 0).firings)
-      * ((length (s.tokens (base.chan + w)) + length (s.tokens (base.chan + n + w))) + inside (get_or Ps w no_part) s)
-      ≡ ((length (s.tokens (base.chan + w)) + length (s.tokens (base.chan + n + w))) + inside (get_or Ps w no_part) s)
-      + (((roles 0).firings * length (s.tokens (base.chan + w)) + (roles 0).firings
-      * length (s.tokens (base.chan + n + w))) + (roles 0).firings * inside (get_or Ps w no_part) s) = omega arith in
-      omega (arith, x, y, z, long w l, (each w l).owed) in
-      let all : ℕ =
-      sum_of (λ w. (length (s.tokens (base.chan + w)) + length (s.tokens (base.chan + n + w)))
-      + inside (get_or Ps w no_part) s) n in
-      let t1 =
-      sum_le (λ w. due (get_or Ps w no_part) s + length (lines_of Ps s w))
-      (λ w. (1 + (roles 0).firings)
-      * ((length (s.tokens (base.chan + w)) + length (s.tokens (base.chan + n + w)))
-      + inside (get_or Ps w no_part) s)) n need in
-      let t2 =
-      sum_times (1 + (roles 0).firings)
-      (λ w. (length (s.tokens (base.chan + w)) + length (s.tokens (base.chan + n + w)))
-      + inside (get_or Ps w no_part) s) n in
-      let u1 =
-      sum_le (λ w. length (lines_of Ps s w))
-      (λ w. (length (s.tokens (base.chan + w)) + length (s.tokens (base.chan + n + w)))
-      + inside (get_or Ps w no_part) s) n long in
+      let all : ℕ = sum_of (worker_holds net units roles n base Ps fan s) n in
+      let t1 = dues_bound net units roles n base Ps fan s a.1 in
+      let u1 = lines_bound net units roles n base Ps fan s a.1 in
       let u2 = total_sum (lines_of Ps s) n in
       let g = come_bound (pieces_of units node n (roles 0).meaning) (last_element units.tree node) (view_of base Ps s) refl k in
-      let i = map_inside s in
+      let i = fan_inside net units roles n base Ps fan s (map_fanned node n) in
       let x : suc (last_element units.tree node) * ((roles 0).firings + 2)
       ≡ last_element units.tree node * ((roles 0).firings + 2) + ((roles 0).firings + 2) = omega arith in
       let w1 =
@@ -1248,7 +1195,7 @@ module _ (net : Net) (units : Units) (roles : ℕ → Role) (node n : ℕ) (pos 
       (length (s.own base.proc).held * ((suc (last_element units.tree node) - (s.own base.proc).number) * ((roles 0).firings + 2)))
       (length (to_come (pieces_of units node n (roles 0).meaning) (view_of base Ps s)))
       (inside (map_part units node n roles base Ps) s)
-      (omega (arith, t1, t2)) w2 (omega (arith, g, u1, u2)) (omega (arith, i)) in
+      (omega (arith, t1)) w2 (omega (arith, g, u1, u2)) (omega (arith, i)) in
       record { owed = omega (arith, b, y); pending = omega (arith, g, u1, u2, i) }
 
   map_law : IsLawfulPart net units (map_part units node n roles base Ps)

@@ -43,7 +43,7 @@ groups_count n acc (x ∷ xs) =
           omega (arith, b, d, f, r)
     ]
 
-read_count : (f : ℕ → ℕ) (m c : ℕ) (L : ℕ → List Token) → length (read_by L f c m) ≡ m
+pub read_count : (f : ℕ → ℕ) (m c : ℕ) (L : ℕ → List Token) → length (read_by L f c m) ≡ m
 unfolding read_by
 read_count f zero c L = refl
 read_count f (suc m) c L = ap suc (read_count f m (suc c) (at L (f c) (rest_of (L (f c)))))

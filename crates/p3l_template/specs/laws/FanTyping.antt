@@ -1,7 +1,7 @@
 -- The typing of workers between two rows of channels: the rows carry what is said of them (`row_in`, `row_out`), and together
 -- with the two processes before the workers they are read and written once (`fan_reads`, `fan_writes`).
 use Rattle.std.proofs.Common.{◌≡◌, ℕ, zero, suc, ◌+◌, ◌<◌, ◌≤◌, List, [], ◌∷◌, ◌++◌, length, length-append, get_or, replicate, refl, sym, ap, ◌∙◌, subst, arith, append-nil}
-use Rattle.std.proofs.lemmas.List.{length-replicate}
+use Rattle.std.proofs.lemmas.List.{length-replicate, get_or-replicate}
 use Rattle.p3l_skel.specs.declared.tree.Tree.{Tree}
 use Rattle.p3l_skel.specs.Tree.{node_at, part_at}
 use Rattle.p3l_firing.specs.declared.process.ProcKind.{ProcKind}
@@ -21,11 +21,6 @@ use Rattle.p3l_template.specs.laws.TimesLaw.{times_append, times_cons, numbers_a
 pub rows_count : (n : ℕ) (a b : Width) → length (worker_widths n a b) ≡ n + n
 rows_count n a b =
     length-append (replicate n a) (replicate n b) ∙ omega (arith, length-replicate n a, length-replicate n b)
-
-replicate_at : (n : ℕ) (a d : Width) (k : ℕ) → k < n → get_or (replicate n a) k d ≡ a
-replicate_at zero a d k l = absurd (omega arith)
-replicate_at (suc n) a d zero l = refl
-replicate_at (suc n) a d (suc k) l = replicate_at n a d k (omega arith)
 
 append_left : (n : ℕ) (a : Width) (xs : List Width) (k : ℕ) → k < n → get_or (replicate n a ++ xs) k no_width ≡ a
 append_left zero a xs k l = absurd (omega arith)
@@ -68,7 +63,7 @@ module _ (w : Widths) (c n : ℕ) (a b : Width) (own : Carry w c (worker_widths 
       let e : c + (n + k) ≡ c + n + k = omega arith in
       subst (λ z. Carries w z b.words b.tags) e
       (subst (λ z. Carries w (c + (n + k)) z.words z.tags)
-      (append_right n a (replicate n b) k ∙ replicate_at n b no_width k l)
+      (append_right n a (replicate n b) k ∙ get_or-replicate n k b no_width l)
       (own (n + k) (omega (arith, l, rows_count n a b))))
 
   pub row_in : AllCarry w (numbers_from c n) a.words a.tags

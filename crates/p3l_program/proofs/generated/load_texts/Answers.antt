@@ -9,7 +9,7 @@ returns-in-Err-clause-refused c =
     let accepted = c.in-Ok.ensures.accepted in
     let text = c.args.program.now in
     let said = c.args.costs.now in
-    subst (λ v. AreNotLoaded text said c.args.processors v) (sym c.cost_verdict.ensures)
+    subst (λ v. AreNotLoaded text said c.args.processors v) (sym c.from.ensures)
     (costs_refused text said c.args.processors accepted.r c.in-Ok.program accepted.comes c.in-Err.refusal c.in-Err.ensures.read)
 
 pub returns-in-Err-TooFew-clause-refused : goal.returns-in-Err-TooFew-clause-refused

@@ -5,12 +5,12 @@ use Rattle.p3l_program.proofs.image.load_bytes.Goals as goal
 
 pub returns-in-Err-clause-refused : goal.returns-in-Err-clause-refused
 returns-in-Err-clause-refused c =
-    subst (IsUnloadable c.args.bytes.now) (sym c.image_verdict.ensures) (unloadable c.args.bytes.now _ (undecoded c.args.bytes.now c.in-Err.refusal c.in-Err.ensures.only c.in-Err.ensures.exact))
+    subst (IsUnloadable c.args.bytes.now) (sym c.from.ensures) (unloadable c.args.bytes.now _ (undecoded c.args.bytes.now c.in-Err.refusal c.in-Err.ensures.only c.in-Err.ensures.exact))
 
 pub returns-in-Err-load-clause-refused : goal.returns-in-Err-load-clause-refused
 returns-in-Err-load-clause-refused c =
     let i = c.in-Ok.image in
-    subst (IsUnloadable c.args.bytes.now) (sym c.load_verdict.ensures)
+    subst (IsUnloadable c.args.bytes.now) (sym c.from.ensures)
     (unrunnable c.args.bytes.now i c.in-Ok.ensures.found (same_image c.args.bytes.now i c.in-Ok.ensures.only) c.in-Err-load.refusal c.in-Err-load.ensures.refused)
 
 pub returns-in-Ok-load-clause-loaded : goal.returns-in-Ok-load-clause-loaded

@@ -1,6 +1,5 @@
-use Rattle.std.proofs.Common.{None, refl, sym, subst}
+use Rattle.std.proofs.Common.{refl, sym, subst}
 use Rattle.std.specs.declared.result.Result.TheVariants.{Ok}
-use Rattle.p3l_report.specs.declared.verdict.Verdict.TheVariants as verdict
 use Rattle.p3l_run.specs.Checkpoint.{IsCheckpointEnd}
 use Rattle.p3l_run.specs.Network.{Network, network}
 use Rattle.p3l_sched.specs.declared.schedule.Schedule.TheVariants.{Recorded}
@@ -31,8 +30,7 @@ returns-in-Ok-Ended-clause-ended g c =
     let out = change g.K.Sink.taken g.K.Sink.faults c.args.out.now c.run_to_checkpoint.new.out in
     let has = subst (λ k. HasPicks (held c.args.files.now) k c.args.name (Recorded c.in-Ok.picks)) c.len-count.ensures c.in-Ok.ensures.found in
     let ends = subst (λ e. IsCheckpointEnd n c.in-Ok.picks input.old input.new input.before input.now out.old out.new (Ok e)) c.in-Ok-Ended.field-0-is c.in-Ok-Ended.ensures.ends in
-    subst (λ f. IsUnreached n files input out c.args.name (verdict.Ended f None)) (sym c.run_finish.ensures)
-    (ended_so n files input out c.args.name c.in-Ok.picks has (c.laws.ensures n c.requires.sound) refl c.in-Ok-Ended.end ends c.in-Ok.ensures.calm c.in-Ok-Ended.ensures.output)
+    ended_so n files input out c.args.name c.in-Ok.picks has (c.laws.ensures n c.requires.sound) refl c.in-Ok-Ended.end ends c.in-Ok.ensures.calm c.in-Ok-Ended.ensures.output
 
 pub returns-in-Ok-Saved-clause-reached : goal.returns-in-Ok-Saved-clause-reached
 returns-in-Ok-Saved-clause-reached g c =

@@ -13,4 +13,4 @@ pub returns-in-Err-can_scan-clause-refused : goal.returns-in-Err-can_scan-clause
 returns-in-Err-can_scan-clause-refused g c =
     let loads = c.in-Ok.ensures.loaded in
     not_scanned c.args.name c.args.segments loads.r (files_change g.F.Files.held g.F.Files.faults g.F.Files.failed c.args.files.now c.load_program.new.files) c.in-Ok.program loads.is.text loads.is.has
-    loads.is.comes c.in-Err-can_scan.refusal c.in-Err-can_scan.ensures.refused c.in-Ok.ensures.calm c.scan_fault.result c.scan_fault.ensures
+    loads.is.comes c.in-Err-can_scan.refusal c.in-Err-can_scan.ensures.refused c.in-Ok.ensures.calm

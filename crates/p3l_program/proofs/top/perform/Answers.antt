@@ -2,273 +2,170 @@ use Rattle.std.proofs.Common.{refl, rules, subst, inl, inr}
 use Rattle.p3l_opts.specs.declared.command.Command.TheVariants as command
 use Rattle.p3l_opts.specs.Command.{Spells, texts_of}
 use Rattle.p3l_program.specs.Command.{work_of}
-use Rattle.p3l_program.specs.World.{change, files_change}
 use Rattle.p3l_program.proofs.ExpectedSteps.{check_requested, file_requested, gen_requested, profile_requested, run_requested, save_requested, saving_requested, text_requested, time_requested}
 use Rattle.p3l_program.proofs.ExportSteps.{choice_within}
 use Rattle.p3l_program.proofs.GenSteps.{items_few}
 use Rattle.p3l_program.proofs.top.perform.Goals as goal
 
-pub returns-in-Ok-Check : goal.returns-in-Ok-Check
+pub returns-in-Ok-Check-clause-expected : goal.returns-in-Ok-Check-clause-expected
 unfolding work_of
-returns-in-Ok-Check g c =
+returns-in-Ok-Check-clause-expected g c =
     let request = c.in-Ok-Check in
-    let spelled : Spells (texts_of c.args.words.now) (command.Check request.name) = search (rules, request.ensures.spelled) in record {
-      expected =
-          text_requested (texts_of c.args.words.now) _ spelled (files_change g.F.Files.held g.F.Files.faults g.F.Files.failed c.args.files.now c.check.new.files)
-          (change g.K.Sink.taken g.K.Sink.faults c.args.out.now c.check.new.out) (g.S.Source.rest c.args.input.now) (g.S.Source.faults c.args.input.now)
-          c.check.result _ _ refl c.check.ensures.expected c.check.ensures.stays;
-      wants = inl c.check.ensures.wants;
-    }
+    let spelled : Spells (texts_of c.args.words.now) (command.Check request.program) = search (rules, request.ensures.spelled) in
+    text_requested spelled refl c.check.ensures.expected c.check.ensures.stays
 
-pub returns-in-Ok-Fmt : goal.returns-in-Ok-Fmt
+pub returns-in-Ok-Fmt-clause-expected : goal.returns-in-Ok-Fmt-clause-expected
 unfolding work_of
-returns-in-Ok-Fmt g c =
+returns-in-Ok-Fmt-clause-expected g c =
     let request = c.in-Ok-Fmt in
-    let spelled : Spells (texts_of c.args.words.now) (command.Fmt request.name) = search (rules, request.ensures.spelled) in record {
-      expected =
-          text_requested (texts_of c.args.words.now) _ spelled (files_change g.F.Files.held g.F.Files.faults g.F.Files.failed c.args.files.now c.fmt.new.files)
-          (change g.K.Sink.taken g.K.Sink.faults c.args.out.now c.fmt.new.out) (g.S.Source.rest c.args.input.now) (g.S.Source.faults c.args.input.now)
-          c.fmt.result _ _ refl c.fmt.ensures.expected c.fmt.ensures.stays;
-      wants = inl c.fmt.ensures.wants;
-    }
+    let spelled : Spells (texts_of c.args.words.now) (command.Fmt request.program) = search (rules, request.ensures.spelled) in
+    text_requested spelled refl c.fmt.ensures.expected c.fmt.ensures.stays
 
-pub returns-in-None : goal.returns-in-None
+pub returns-in-None-clause-expected : goal.returns-in-None-clause-expected
 unfolding work_of
-returns-in-None g c =
+returns-in-None-clause-expected g c =
     let words = texts_of c.args.words.now in
     let request = subst (λ k. Spells words k) c.in-Ok-Explain.field-0-is c.in-Ok-Explain.ensures.spelled in
-    let spelled = subst (λ cert. Spells words (command.Explain c.in-Ok-Explain.build cert)) c.in-None.is request in record {
-      expected =
-          text_requested words _ spelled (files_change g.F.Files.held g.F.Files.faults g.F.Files.failed c.args.files.now c.explain.new.files)
-          (change g.K.Sink.taken g.K.Sink.faults c.args.out.now c.explain.new.out) (g.S.Source.rest c.args.input.now) (g.S.Source.faults c.args.input.now)
-          c.explain.result _ _ refl c.explain.ensures.expected c.explain.ensures.stays;
-      wants = inl c.explain.ensures.wants;
-    }
+    let spelled = subst (λ cert. Spells words (command.Explain c.in-Ok-Explain.build cert)) c.in-None.is request in
+    text_requested spelled refl c.explain.ensures.expected c.explain.ensures.stays
 
-pub returns-in-Some : goal.returns-in-Some
+pub returns-in-Some-clause-expected : goal.returns-in-Some-clause-expected
 unfolding work_of
-returns-in-Some g c =
+returns-in-Some-clause-expected g c =
     let words = texts_of c.args.words.now in
     let request = subst (λ k. Spells words k) c.in-Ok-Explain.field-0-is c.in-Ok-Explain.ensures.spelled in
-    let spelled = subst (λ cert. Spells words (command.Explain c.in-Ok-Explain.build cert)) c.in-Some.is request in record {
-      expected =
-          saving_requested words _ spelled (files_change g.F.Files.held g.F.Files.faults g.F.Files.failed c.args.files.now c.certify.new.files)
-          (change g.K.Sink.taken g.K.Sink.faults c.args.out.now c.certify.new.out) (g.S.Source.rest c.args.input.now) (g.S.Source.faults c.args.input.now)
-          c.certify.result _ _ _ _ refl c.certify.ensures.expected c.certify.ensures.kept;
-      wants = inl c.certify.ensures.wants;
-    }
+    let spelled = subst (λ cert. Spells words (command.Explain c.in-Ok-Explain.build cert)) c.in-Some.is request in
+    saving_requested spelled refl c.certify.ensures.expected c.certify.ensures.kept
 
-pub returns-in-Ok-Advise : goal.returns-in-Ok-Advise
+pub returns-in-Ok-Advise-clause-expected : goal.returns-in-Ok-Advise-clause-expected
 unfolding work_of
-returns-in-Ok-Advise g c =
+returns-in-Ok-Advise-clause-expected g c =
     let request = c.in-Ok-Advise in
-    let spelled : Spells (texts_of c.args.words.now) (command.Advise request.build request.processes) = search (rules, request.ensures.spelled) in record {
-      expected =
-          text_requested (texts_of c.args.words.now) _ spelled (files_change g.F.Files.held g.F.Files.faults g.F.Files.failed c.args.files.now c.advise.new.files)
-          (change g.K.Sink.taken g.K.Sink.faults c.args.out.now c.advise.new.out) (g.S.Source.rest c.args.input.now) (g.S.Source.faults c.args.input.now)
-          c.advise.result _ _ refl c.advise.ensures.expected c.advise.ensures.stays;
-      wants = inl c.advise.ensures.wants;
-    }
+    let spelled : Spells (texts_of c.args.words.now) (command.Advise request.build request.processes) = search (rules, request.ensures.spelled) in
+    text_requested spelled refl c.advise.ensures.expected c.advise.ensures.stays
 
-pub returns-in-Ok-Compile : goal.returns-in-Ok-Compile
+pub returns-in-Ok-Compile-clause-expected : goal.returns-in-Ok-Compile-clause-expected
 unfolding work_of
-returns-in-Ok-Compile g c =
+returns-in-Ok-Compile-clause-expected g c =
     let request = c.in-Ok-Compile in
-    let spelled : Spells (texts_of c.args.words.now) (command.Compile request.build request.name) = search (rules, request.ensures.spelled) in record {
-      expected =
-          file_requested (texts_of c.args.words.now) _ spelled (files_change g.F.Files.held g.F.Files.faults g.F.Files.failed c.args.files.now c.compile.new.files)
-          (change g.K.Sink.taken g.K.Sink.faults c.args.out.now c.args.out.now) (g.S.Source.rest c.args.input.now) (g.S.Source.faults c.args.input.now)
-          c.compile.result _ _ _ refl (record { known = refl; calm = refl }) c.compile.ensures.expected c.compile.ensures.kept;
-      wants = inl c.compile.ensures.wants;
-    }
+    let spelled : Spells (texts_of c.args.words.now) (command.Compile request.build request.output) = search (rules, request.ensures.spelled) in
+    file_requested spelled refl (record { known = refl; calm = refl }) c.compile.ensures.expected c.compile.ensures.kept
 
-pub returns-in-Ok-Migrate : goal.returns-in-Ok-Migrate
+pub returns-in-Ok-Migrate-clause-expected : goal.returns-in-Ok-Migrate-clause-expected
 unfolding work_of
-returns-in-Ok-Migrate g c =
+returns-in-Ok-Migrate-clause-expected g c =
     let request = c.in-Ok-Migrate in
-    let spelled : Spells (texts_of c.args.words.now) (command.Migrate request.name request.output) = search (rules, request.ensures.spelled) in record {
-      expected =
-          file_requested (texts_of c.args.words.now) _ spelled (files_change g.F.Files.held g.F.Files.faults g.F.Files.failed c.args.files.now c.migrate.new.files)
-          (change g.K.Sink.taken g.K.Sink.faults c.args.out.now c.args.out.now) (g.S.Source.rest c.args.input.now) (g.S.Source.faults c.args.input.now)
-          c.migrate.result _ _ _ refl (record { known = refl; calm = refl }) c.migrate.ensures.expected c.migrate.ensures.kept;
-      wants = inl c.migrate.ensures.wants;
-    }
+    let spelled : Spells (texts_of c.args.words.now) (command.Migrate request.image request.output) = search (rules, request.ensures.spelled) in
+    file_requested spelled refl (record { known = refl; calm = refl }) c.migrate.ensures.expected c.migrate.ensures.kept
 
 pub export-requires-clause-capacity : goal.export-requires-clause-capacity
 export-requires-clause-capacity g c =
     let request = c.in-Ok-Export in
-    let spelled : Spells (texts_of c.args.words.now) (command.Export request.exported request.name) = search (rules, request.ensures.spelled) in
+    let spelled : Spells (texts_of c.args.words.now) (command.Export request.exported request.output) = search (rules, request.ensures.spelled) in
     choice_within _ request.exported.capacity spelled.values.0.capacity_is
 
-pub returns-in-Ok-Export : goal.returns-in-Ok-Export
+pub returns-in-Ok-Export-clause-expected : goal.returns-in-Ok-Export-clause-expected
 unfolding work_of
-returns-in-Ok-Export g c =
+returns-in-Ok-Export-clause-expected g c =
     let request = c.in-Ok-Export in
-    let spelled : Spells (texts_of c.args.words.now) (command.Export request.exported request.name) = search (rules, request.ensures.spelled) in record {
-      expected =
-          file_requested (texts_of c.args.words.now) _ spelled (files_change g.F.Files.held g.F.Files.faults g.F.Files.failed c.args.files.now c.export.new.files)
-          (change g.K.Sink.taken g.K.Sink.faults c.args.out.now c.args.out.now) (g.S.Source.rest c.args.input.now) (g.S.Source.faults c.args.input.now)
-          c.export.result _ _ _ refl (record { known = refl; calm = refl }) c.export.ensures.expected c.export.ensures.kept;
-      wants = inl c.export.ensures.wants;
-    }
+    let spelled : Spells (texts_of c.args.words.now) (command.Export request.exported request.output) = search (rules, request.ensures.spelled) in
+    file_requested spelled refl (record { known = refl; calm = refl }) c.export.ensures.expected c.export.ensures.kept
 
-pub returns-in-Ok-Graph : goal.returns-in-Ok-Graph
+pub returns-in-Ok-Graph-clause-expected : goal.returns-in-Ok-Graph-clause-expected
 unfolding work_of
-returns-in-Ok-Graph g c =
+returns-in-Ok-Graph-clause-expected g c =
     let request = c.in-Ok-Graph in
-    let spelled : Spells (texts_of c.args.words.now) (command.Graph request.build) = search (rules, request.ensures.spelled) in record {
-      expected =
-          text_requested (texts_of c.args.words.now) _ spelled (files_change g.F.Files.held g.F.Files.faults g.F.Files.failed c.args.files.now c.graph.new.files)
-          (change g.K.Sink.taken g.K.Sink.faults c.args.out.now c.graph.new.out) (g.S.Source.rest c.args.input.now) (g.S.Source.faults c.args.input.now)
-          c.graph.result _ _ refl c.graph.ensures.expected c.graph.ensures.stays;
-      wants = inl c.graph.ensures.wants;
-    }
+    let spelled : Spells (texts_of c.args.words.now) (command.Graph request.build) = search (rules, request.ensures.spelled) in
+    text_requested spelled refl c.graph.ensures.expected c.graph.ensures.stays
 
-pub returns-in-Ok-Run : goal.returns-in-Ok-Run
+pub returns-in-Ok-Run-clause-expected : goal.returns-in-Ok-Run-clause-expected
 unfolding work_of
-returns-in-Ok-Run g c =
+returns-in-Ok-Run-clause-expected g c =
     let request = c.in-Ok-Run in
-    let spelled : Spells (texts_of c.args.words.now) (command.Run request.build request.schedule request.trace request.reported) = search (rules, request.ensures.spelled) in record {
-      expected =
-          run_requested (texts_of c.args.words.now) _ spelled (files_change g.F.Files.held g.F.Files.faults g.F.Files.failed c.args.files.now c.run.new.files)
-          (change g.S.Source.rest g.S.Source.faults c.args.input.now c.run.new.input)
-          (change g.K.Sink.taken g.K.Sink.faults c.args.out.now c.run.new.out)
-          c.run.result _ refl c.run.ensures.expected c.run.ensures.kept c.run.ensures.over;
-      wants = inl c.run.ensures.wants;
-    }
+    let spelled : Spells (texts_of c.args.words.now) (command.Run request.build request.schedule request.trace request.stats) = search (rules, request.ensures.spelled) in
+    run_requested spelled refl c.run.ensures.expected c.run.ensures.kept c.run.ensures.over
 
-pub returns-in-Ok-VerifyCert : goal.returns-in-Ok-VerifyCert
+pub returns-in-Ok-VerifyCert-clause-expected : goal.returns-in-Ok-VerifyCert-clause-expected
 unfolding work_of
-returns-in-Ok-VerifyCert g c =
+returns-in-Ok-VerifyCert-clause-expected g c =
     let request = c.in-Ok-VerifyCert in
-    let spelled : Spells (texts_of c.args.words.now) (command.VerifyCert request.program request.cert request.costs) = search (rules, request.ensures.spelled) in record {
-      expected =
-          text_requested (texts_of c.args.words.now) _ spelled (files_change g.F.Files.held g.F.Files.faults g.F.Files.failed c.args.files.now c.verify_cert.new.files)
-          (change g.K.Sink.taken g.K.Sink.faults c.args.out.now c.verify_cert.new.out) (g.S.Source.rest c.args.input.now) (g.S.Source.faults c.args.input.now)
-          c.verify_cert.result _ _ refl c.verify_cert.ensures.expected c.verify_cert.ensures.stays;
-      wants = inl c.verify_cert.ensures.wants;
-    }
+    let spelled : Spells (texts_of c.args.words.now) (command.VerifyCert request.program request.cert request.costs) = search (rules, request.ensures.spelled) in
+    text_requested spelled refl c.verify_cert.ensures.expected c.verify_cert.ensures.stays
 
-pub returns-in-Ok-Exec : goal.returns-in-Ok-Exec
+pub returns-in-Ok-Exec-clause-expected : goal.returns-in-Ok-Exec-clause-expected
 unfolding work_of
-returns-in-Ok-Exec g c =
+returns-in-Ok-Exec-clause-expected g c =
     let request = c.in-Ok-Exec in
-    let spelled : Spells (texts_of c.args.words.now) (command.Exec request.name request.schedule request.trace request.reported) = search (rules, request.ensures.spelled) in record {
-      expected =
-          run_requested (texts_of c.args.words.now) _ spelled (files_change g.F.Files.held g.F.Files.faults g.F.Files.failed c.args.files.now c.exec.new.files)
-          (change g.S.Source.rest g.S.Source.faults c.args.input.now c.exec.new.input)
-          (change g.K.Sink.taken g.K.Sink.faults c.args.out.now c.exec.new.out)
-          c.exec.result _ refl c.exec.ensures.expected c.exec.ensures.kept c.exec.ensures.over;
-      wants = inl c.exec.ensures.wants;
-    }
+    let spelled : Spells (texts_of c.args.words.now) (command.Exec request.image request.schedule request.trace request.stats) = search (rules, request.ensures.spelled) in
+    run_requested spelled refl c.exec.ensures.expected c.exec.ensures.kept c.exec.ensures.over
 
-pub returns-in-Ok-CheckTrace : goal.returns-in-Ok-CheckTrace
+pub returns-in-Ok-CheckTrace-clause-expected : goal.returns-in-Ok-CheckTrace-clause-expected
 unfolding work_of
-returns-in-Ok-CheckTrace g c =
+returns-in-Ok-CheckTrace-clause-expected g c =
     let request = c.in-Ok-CheckTrace in
-    let spelled : Spells (texts_of c.args.words.now) (command.CheckTrace request.build request.name) = search (rules, request.ensures.spelled) in record {
-      expected =
-          check_requested (texts_of c.args.words.now) _ spelled (files_change g.F.Files.held g.F.Files.faults g.F.Files.failed c.args.files.now c.check_trace.new.files)
-          (change g.S.Source.rest g.S.Source.faults c.args.input.now c.check_trace.new.input)
-          (change g.K.Sink.taken g.K.Sink.faults c.args.out.now c.check_trace.new.out)
-          c.check_trace.result _ _ refl c.check_trace.ensures.expected c.check_trace.ensures.stays;
-      wants = inl c.check_trace.ensures.wants;
-    }
+    let spelled : Spells (texts_of c.args.words.now) (command.CheckTrace request.build request.trace) = search (rules, request.ensures.spelled) in
+    check_requested spelled refl c.check_trace.ensures.expected c.check_trace.ensures.stays
 
 pub run_generated-requires-clause-items : goal.run_generated-requires-clause-items
 run_generated-requires-clause-items g c =
     let request = c.in-Ok-Gen in
-    let spelled : Spells (texts_of c.args.words.now) (command.Gen request.number request.processors request.items request.schedule request.prefix) = search (rules, request.ensures.spelled) in
+    let spelled : Spells (texts_of c.args.words.now) (command.Gen request.number request.processors request.items request.schedule request.save) = search (rules, request.ensures.spelled) in
     items_few _ request.items spelled.values.items_are
 
-pub returns-in-Ok-Gen : goal.returns-in-Ok-Gen
+pub returns-in-Ok-Gen-clause-expected : goal.returns-in-Ok-Gen-clause-expected
 unfolding work_of
-returns-in-Ok-Gen g c =
+returns-in-Ok-Gen-clause-expected g c =
     let request = c.in-Ok-Gen in
-    let spelled : Spells (texts_of c.args.words.now) (command.Gen request.number request.processors request.items request.schedule request.prefix) = search (rules, request.ensures.spelled) in record {
-      expected =
-          gen_requested (texts_of c.args.words.now) _ spelled (files_change g.F.Files.held g.F.Files.faults g.F.Files.failed c.args.files.now c.run_generated.new.files)
-          (change g.K.Sink.taken g.K.Sink.faults c.args.out.now c.run_generated.new.out) (g.S.Source.rest c.args.input.now) (g.S.Source.faults c.args.input.now)
-          c.run_generated.result _ refl c.run_generated.ensures.expected;
-      wants = inl c.run_generated.ensures.wants;
-    }
+    let spelled : Spells (texts_of c.args.words.now) (command.Gen request.number request.processors request.items request.schedule request.save) = search (rules, request.ensures.spelled) in
+    gen_requested spelled refl c.run_generated.ensures.expected
 
-pub returns-in-Ok-Rewrite : goal.returns-in-Ok-Rewrite
+pub returns-in-Ok-Rewrite-clause-expected : goal.returns-in-Ok-Rewrite-clause-expected
 unfolding work_of
-returns-in-Ok-Rewrite g c =
+returns-in-Ok-Rewrite-clause-expected g c =
     let request = c.in-Ok-Rewrite in
-    let spelled : Spells (texts_of c.args.words.now) (command.Rewrite request.program request.processors request.costs) = search (rules, request.ensures.spelled) in record {
-      expected =
-          text_requested (texts_of c.args.words.now) _ spelled (files_change g.F.Files.held g.F.Files.faults g.F.Files.failed c.args.files.now c.rewrite.new.files)
-          (change g.K.Sink.taken g.K.Sink.faults c.args.out.now c.rewrite.new.out) (g.S.Source.rest c.args.input.now) (g.S.Source.faults c.args.input.now)
-          c.rewrite.result _ _ refl c.rewrite.ensures.expected c.rewrite.ensures.stays;
-      wants = inl c.rewrite.ensures.wants;
-    }
+    let spelled : Spells (texts_of c.args.words.now) (command.Rewrite request.program request.processors request.costs) = search (rules, request.ensures.spelled) in
+    text_requested spelled refl c.rewrite.ensures.expected c.rewrite.ensures.stays
 
-pub returns-in-Ok-Profile : goal.returns-in-Ok-Profile
+pub returns-in-Ok-Profile-clause-expected : goal.returns-in-Ok-Profile-clause-expected
 unfolding work_of
-returns-in-Ok-Profile g c =
+returns-in-Ok-Profile-clause-expected g c =
     let request = c.in-Ok-Profile in
-    let spelled : Spells (texts_of c.args.words.now) (command.Profile request.name) = search (rules, request.ensures.spelled) in record {
-      expected =
-          profile_requested (texts_of c.args.words.now) _ spelled (files_change g.F.Files.held g.F.Files.faults g.F.Files.failed c.args.files.now c.profile.new.files)
-          (change g.S.Source.rest g.S.Source.faults c.args.input.now c.profile.new.input)
-          (change g.K.Sink.taken g.K.Sink.faults c.args.out.now c.profile.new.out)
-          c.profile.result _ refl c.profile.ensures.expected c.profile.ensures.stays;
-      wants = inl c.profile.ensures.wants;
-    }
+    let spelled : Spells (texts_of c.args.words.now) (command.Profile request.program) = search (rules, request.ensures.spelled) in
+    profile_requested spelled refl c.profile.ensures.expected c.profile.ensures.stays
 
-pub returns-in-Ok-Time : goal.returns-in-Ok-Time
+pub returns-in-Ok-Time-clause-expected : goal.returns-in-Ok-Time-clause-expected
 unfolding work_of
-returns-in-Ok-Time g c =
+returns-in-Ok-Time-clause-expected g c =
     let request = c.in-Ok-Time in
-    let spelled : Spells (texts_of c.args.words.now) (command.Time request.build request.picks) = search (rules, request.ensures.spelled) in record {
-      expected =
-          time_requested (texts_of c.args.words.now) _ spelled (files_change g.F.Files.held g.F.Files.faults g.F.Files.failed c.args.files.now c.time.new.files)
-          (change g.S.Source.rest g.S.Source.faults c.args.input.now c.time.new.input)
-          (change g.K.Sink.taken g.K.Sink.faults c.args.out.now c.time.new.out)
-          c.time.result _ _ refl c.time.ensures.expected c.time.ensures.kept c.time.ensures.over;
-      wants = inl c.time.ensures.wants;
-    }
+    let spelled : Spells (texts_of c.args.words.now) (command.Time request.build request.picks) = search (rules, request.ensures.spelled) in
+    time_requested spelled refl c.time.ensures.expected c.time.ensures.kept c.time.ensures.over
 
-pub returns-in-Ok-Scan : goal.returns-in-Ok-Scan
+pub returns-in-Ok-Scan-clause-expected : goal.returns-in-Ok-Scan-clause-expected
 unfolding work_of
-returns-in-Ok-Scan g c =
+returns-in-Ok-Scan-clause-expected g c =
     let request = c.in-Ok-Scan in
-    let spelled : Spells (texts_of c.args.words.now) (command.Scan request.name request.segments request.schedule request.capacity request.reported) = search (rules, request.ensures.spelled) in record {
-      expected =
-          run_requested (texts_of c.args.words.now) _ spelled (files_change g.F.Files.held g.F.Files.faults g.F.Files.failed c.args.files.now c.scan.new.files)
-          (change g.S.Source.rest g.S.Source.faults c.args.input.now c.scan.new.input)
-          (change g.K.Sink.taken g.K.Sink.faults c.args.out.now c.scan.new.out)
-          c.scan.result _ refl c.scan.ensures.expected c.scan.ensures.kept c.scan.ensures.over;
-      wants = inl c.scan.ensures.wants;
-    }
+    let spelled : Spells (texts_of c.args.words.now) (command.Scan request.program request.segments request.schedule request.capacity request.stats) = search (rules, request.ensures.spelled) in
+    run_requested spelled refl c.scan.ensures.expected c.scan.ensures.kept c.scan.ensures.over
 
-pub returns-in-Ok-Save : goal.returns-in-Ok-Save
+pub returns-in-Ok-Save-clause-expected : goal.returns-in-Ok-Save-clause-expected
 unfolding work_of
-returns-in-Ok-Save g c =
+returns-in-Ok-Save-clause-expected g c =
     let request = c.in-Ok-Save in
-    let spelled : Spells (texts_of c.args.words.now) (command.Save request.build request.picks request.output) = search (rules, request.ensures.spelled) in record {
-      expected =
-          save_requested (texts_of c.args.words.now) _ spelled (files_change g.F.Files.held g.F.Files.faults g.F.Files.failed c.args.files.now c.save_state.new.files)
-          (change g.S.Source.rest g.S.Source.faults c.args.input.now c.save_state.new.input)
-          (change g.K.Sink.taken g.K.Sink.faults c.args.out.now c.save_state.new.out)
-          c.save_state.result _ _ _ refl c.save_state.ensures.expected c.save_state.ensures.kept c.save_state.ensures.over;
-      wants = elim c.save_state.ensures.wants [
-        | inl own ↦ inl own
-        | inr long ↦ inr (record { build = request.build; picks = request.picks; output = request.output; spelled = spelled; long = long })
-      ];
-    }
+    let spelled : Spells (texts_of c.args.words.now) (command.Save request.build request.picks request.output) = search (rules, request.ensures.spelled) in
+    save_requested spelled refl c.save_state.ensures.expected c.save_state.ensures.kept c.save_state.ensures.over
 
-pub returns-in-Ok-Resume : goal.returns-in-Ok-Resume
+pub returns-in-Ok-Save-clause-wants : goal.returns-in-Ok-Save-clause-wants
+returns-in-Ok-Save-clause-wants g c =
+    let request = c.in-Ok-Save in
+    let spelled : Spells (texts_of c.args.words.now) (command.Save request.build request.picks request.output) = search (rules, request.ensures.spelled) in
+    elim c.save_state.ensures.wants [
+      | inl own ↦ inl own
+      | inr long ↦ inr (record { build = request.build; picks = request.picks; output = request.output; spelled = spelled; long = long })
+    ]
+
+pub returns-in-Ok-Resume-clause-expected : goal.returns-in-Ok-Resume-clause-expected
 unfolding work_of
-returns-in-Ok-Resume g c =
+returns-in-Ok-Resume-clause-expected g c =
     let request = c.in-Ok-Resume in
-    let spelled : Spells (texts_of c.args.words.now) (command.Resume request.name request.schedule request.reported) = search (rules, request.ensures.spelled) in record {
-      expected =
-          run_requested (texts_of c.args.words.now) _ spelled (files_change g.F.Files.held g.F.Files.faults g.F.Files.failed c.args.files.now c.resume.new.files)
-          (change g.S.Source.rest g.S.Source.faults c.args.input.now c.resume.new.input)
-          (change g.K.Sink.taken g.K.Sink.faults c.args.out.now c.resume.new.out)
-          c.resume.result _ refl c.resume.ensures.expected c.resume.ensures.kept c.resume.ensures.over;
-      wants = inl c.resume.ensures.wants;
-    }
+    let spelled : Spells (texts_of c.args.words.now) (command.Resume request.snapshot request.schedule request.stats) = search (rules, request.ensures.spelled) in
+    run_requested spelled refl c.resume.ensures.expected c.resume.ensures.kept c.resume.ensures.over

@@ -1,0 +1,4 @@
+pub mod Given
+pub mod Turned
+pub mod ByParts
+pub mod Noting
