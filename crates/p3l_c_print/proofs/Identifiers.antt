@@ -86,6 +86,7 @@ one_numbered vars kind n var places here go = by (is_some (lookup (bytes_eq var.
   where
     its : Place
     its = record { kind = kind; number = n; sizes = var.shape.sizes }
+
     by : (t : Bool) → AreNumbered vars (cond t places (places ++ (var.name, its) ∷ []))
     by true = go
     by false = λ name place e. ⊎_elim (go name place)
@@ -137,7 +138,7 @@ object_is names name place is = ap (found_text names name) is
 
 found_is : (o : Option Place) → IsSome o → (place : Place) × (o ≡ Some place)
 found_is (Some place) h = (place, refl)
-found_is None h = absurd h
+found_is None h = absurd (true≢false (sym h))
 
 given_name : Option (List ℕ) → List ℕ
 given_name (Some name) = name
@@ -166,8 +167,8 @@ distinct seq name few known =
     record {
       significant = subst (λ t. length t ≤ 63) (sym text) (place_short name here.0 small);
       own = λ other also same.
-        let there = found_is (lookup (bytes_eq other) (names_of seq).places) also in
-        let kinds = kinds_same here.0.kind there.0.kind _ _ (sym text ∙ same ∙ object_is (names_of seq) other there.0 there.1) in
-        one_variable seq name other here.0 there.0 (variables_numbered seq name here.0 here.1) (variables_numbered seq other there.0 there.1) kinds.0
-        (numbers_same here.0.number there.0.number _ _ small (number_small seq other there.0 few there.1) kinds.1);
+          let there = found_is (lookup (bytes_eq other) (names_of seq).places) also in
+          let kinds = kinds_same here.0.kind there.0.kind _ _ (sym text ∙ same ∙ object_is (names_of seq) other there.0 there.1) in
+          one_variable seq name other here.0 there.0 (variables_numbered seq name here.0 here.1) (variables_numbered seq other there.0 there.1) kinds.0
+          (numbers_same here.0.number there.0.number _ _ small (number_small seq other there.0 few there.1) kinds.1);
     }
