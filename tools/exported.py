@@ -74,6 +74,9 @@ DOT = """seq dot in(int a[3], int b[3]) out(int c)
 ${ int i; for (i = 0; i < 3; i = i + 1) { c = c + a[i] * b[i]; } }$ end seq
 """
 
+# The longest names have one letter more.
+LETTERS = "n" * 63
+
 # Programs with the words of a skeleton each: the name, the text, and the stream.
 ROWS = [
     ("seq", SQUARE + "pipe main in(int x) out(int y) square in(x) out(y) end pipe", NUMBERS),
@@ -117,6 +120,10 @@ ROWS = [
      half in(x) out(y) while more in(y) out(int again) end loop
      farm main in(int x) out(int y) workers 2 round in(x) out(y) end farm""",
      NUMBERS + b"1024\n5\n"),
+    ("longest names", f"""seq tell in(int {LETTERS}a, int {LETTERS}b) out(int {LETTERS}c)
+     ${{ int {LETTERS}d; {LETTERS}d = {LETTERS}a - {LETTERS}b; {LETTERS}c = {LETTERS}d * 2; }}$
+     end seq
+     farm main in(int a, int b) out(int c) tell in(a, b) out(c) end farm""", b"5 3\n7 -2\n"),
     ("refused", SQUARES, b"5\n\n \t\r\n-0007\r\n+5\n6\n"),
     ("too many", SQUARES, b"5\n7 8 9\n6"),
     ("too great", SQUARES,

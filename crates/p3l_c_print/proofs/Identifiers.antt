@@ -138,7 +138,7 @@ object_is names name place is = ap (found_text names name) is
 
 found_is : (o : Option Place) → IsSome o → (place : Place) × (o ≡ Some place)
 found_is (Some place) h = (place, refl)
-found_is None h = absurd h
+found_is None h = absurd (true≢false (sym h))
 
 given_name : Option (List ℕ) → List ℕ
 given_name (Some name) = name

@@ -1,5 +1,5 @@
 -- The value of an expression as a text of C, and the lines before its use.
-use Rattle.std.specs.Prelude.{ℕ, ℤ, pos, negsuc, ◌+◌, Bool, true, false, not, List, [], ◌∷◌, ◌++◌, codes, Option, Some, None, max, nat_le, if◌then◌else◌}
+use Rattle.std.specs.Prelude.{◌≡◌, ℕ, ℤ, pos, negsuc, ◌+◌, Bool, true, false, not, List, [], ◌∷◌, ◌++◌, codes, Option, Some, None, max, nat_le, if◌then◌else◌}
 use Rattle.std.specs.Fmt.{decimal}
 use Rattle.p3l_base.specs.declared.outcome.TrapKind.{TrapKind}
 use Rattle.p3l_base.specs.declared.outcome.TrapKind.TheVariants.{DivZero, DivOver, Index, Shift}
@@ -42,6 +42,11 @@ value_of names n e = told names (value n e) (next n e) (height e)
 unfoldable pub front_text : Names → List ℕ → ℕ → Phrase → List ℕ
 front_text names margin n e = lines_text names margin (before (shapes_of names) n e done)
 
+-- a call puts the lines before its use after a text, and gives its value
+pub record PutsValue (names : Names) (margin : List ℕ) (n : ℕ) (e : Phrase) (old new : List ℕ) (it : Value) : Type 0 where
+  pub lines : new ≡ old ++ front_text names margin n e
+  pub value : it ≡ value_of names n e
+
 -- the lines before the use of an element
 unfoldable pub index_text : Names → List ℕ → ℕ → List ℕ → Phrases → List ℕ
 index_text names margin n sizes is = lines_text names margin (before_all (shapes_of names) n sizes is done)
@@ -49,6 +54,11 @@ index_text names margin n sizes is = lines_text names margin (before_all (shapes
 -- the lines of statements
 unfoldable pub code_text : Names → List ℕ → ℕ → Statements → List ℕ
 code_text names margin budget c = lines_text names margin (lines (shapes_of names) budget c done)
+
+-- a call puts the lines of statements after a text, and counts their temps
+pub record PutsCode (names : Names) (margin : List ℕ) (budget : ℕ) (c : Statements) (old new : List ℕ) (count : ℕ) : Type 0 where
+  pub lines : new ≡ old ++ code_text names margin budget c
+  pub temps : count ≡ temps_of c
 
 -- the lines of an assignment
 unfoldable pub assign_text : Names → List ℕ → List ℕ → Phrases → Phrase → List ℕ

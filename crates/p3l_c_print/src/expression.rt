@@ -5,7 +5,7 @@ ghost use Rattle.p3l_base.specs.Memory.{IfGiven, OnGiven};
 ghost use Rattle.p3l_ast.specs.Tree.{phrase, phrases, read, binary};
 ghost use Rattle.p3l_c.specs.Translate.{is_steady};
 ghost use Rattle.p3l_c_print.specs.Name.{name_text};
-ghost use Rattle.p3l_c_print.specs.Value.{value_of, front_text, index_text, spots_of, operand_of, operand_text, own_temp, truth_text};
+ghost use Rattle.p3l_c_print.specs.Value.{PutsValue, index_text, spots_of, operand_of, operand_text, own_temp, truth_text};
 
 use crate::count::sum;
 use crate::guard::{first_size, other_sizes, put_spot};
@@ -28,9 +28,8 @@ impl Names<'_> {
         first: u64,
         expr: &Expr,
     ) -> Result<Value, NoMemory>
-        ensures lines { OnGiven result (string_bytes out.new
-            ≡ string_bytes out.old ++ front_text self.now margin.now first (phrase expr.now)) }
-        ensures value { IfGiven result (λ it. it ≡ value_of self.now first (phrase expr.now)) }
+        ensures { IfGiven result (PutsValue self.now margin.now first (phrase expr.now)
+            (string_bytes out.old) (string_bytes out.new)) }
     {
         match expr {
             Expr::Number(number) => Ok(number_value(literal(self.alloc, *number)?, first, 0)),
@@ -55,11 +54,9 @@ impl Names<'_> {
         first: u64,
         target: &Target,
     ) -> Result<Value, NoMemory>
-        ensures lines { OnGiven result (string_bytes out.new ≡ string_bytes out.old
-            ++ front_text self.now margin.now first
-            (read target.now.at (phrases target.now.index.items))) }
-        ensures value { IfGiven result (λ it. it
-            ≡ value_of self.now first (read target.now.at (phrases target.now.index.items))) }
+        ensures { IfGiven result (PutsValue self.now margin.now first
+            (read target.now.at (phrases target.now.index.items))
+            (string_bytes out.old) (string_bytes out.new)) }
     {
         let sizes = self.sizes(&target.at.name);
         let spots = self.put_indices(out, margin, first, sizes, target.index.as_slice())?;
@@ -157,11 +154,9 @@ impl Names<'_> {
         left: &Expr,
         right: &Expr,
     ) -> Result<Value, NoMemory>
-        ensures lines { OnGiven result (string_bytes out.new ≡ string_bytes out.old
-            ++ front_text self.now margin.now first
-            (binary op (phrase left.now) (phrase right.now))) }
-        ensures value { IfGiven result (λ it. it
-            ≡ value_of self.now first (binary op (phrase left.now) (phrase right.now))) }
+        ensures { IfGiven result (PutsValue self.now margin.now first
+            (binary op (phrase left.now) (phrase right.now))
+            (string_bytes out.old) (string_bytes out.new)) }
     {
         if has_own_temp(op, right) {
             return self.put_decided(out, margin, first, op, left, right);
@@ -182,11 +177,9 @@ impl Names<'_> {
         right: &Expr,
     ) -> Result<Value, NoMemory>
         requires { own_temp op (is_steady (phrase right.now)) ≡ false }
-        ensures lines { OnGiven result (string_bytes out.new ≡ string_bytes out.old
-            ++ front_text self.now margin.now first
-            (binary op (phrase left.now) (phrase right.now))) }
-        ensures value { IfGiven result (λ it. it
-            ≡ value_of self.now first (binary op (phrase left.now) (phrase right.now))) }
+        ensures { IfGiven result (PutsValue self.now margin.now first
+            (binary op (phrase left.now) (phrase right.now))
+            (string_bytes out.old) (string_bytes out.new)) }
     {
         let one = self.put_operand(out, margin, first, left)?;
         let two = self.put_operand(out, margin, one.after, right)?;
@@ -206,11 +199,9 @@ impl Names<'_> {
         right: &Expr,
     ) -> Result<Value, NoMemory>
         requires { own_temp op (is_steady (phrase right.now)) ≡ true }
-        ensures lines { OnGiven result (string_bytes out.new ≡ string_bytes out.old
-            ++ front_text self.now margin.now first
-            (binary op (phrase left.now) (phrase right.now))) }
-        ensures value { IfGiven result (λ it. it
-            ≡ value_of self.now first (binary op (phrase left.now) (phrase right.now))) }
+        ensures { IfGiven result (PutsValue self.now margin.now first
+            (binary op (phrase left.now) (phrase right.now))
+            (string_bytes out.old) (string_bytes out.new)) }
     {
         let start = sum(self.alloc, first, 1)?;
         let one = self.put_truth_of(out, margin, first, start, left)?;

@@ -6,7 +6,7 @@ ghost use Rattle.p3l_ast.specs.Tree.{phrase, phrases, one, statements, done, if_
 ghost use Rattle.p3l_c.specs.Translate.{next};
 ghost use Rattle.p3l_c.specs.Temps.{assign_temps, temps_of};
 ghost use Rattle.p3l_c_print.specs.Line.{deeper, loop_lines};
-ghost use Rattle.p3l_c_print.specs.Value.{value_of, front_text, code_text, assign_text, round_text, block_of, test_of};
+ghost use Rattle.p3l_c_print.specs.Value.{PutsCode, value_of, front_text, assign_text, round_text, block_of, test_of};
 
 use crate::line::{deeper, put_choice, put_loop, put_turn};
 use crate::names::Names;
@@ -50,9 +50,8 @@ impl Names<'_> {
         budget: u32,
         stmts: &[Stmt],
     ) -> Result<u64, NoMemory>
-        ensures lines { OnGiven result (string_bytes out.new ≡ string_bytes out.old
-            ++ code_text self.now margin.now budget (statements stmts.now)) }
-        ensures temps { IfGiven result (λ temps. temps ≡ temps_of (statements stmts.now)) }
+        ensures { IfGiven result (PutsCode self.now margin.now budget (statements stmts.now)
+            (string_bytes out.old) (string_bytes out.new)) }
     {
         let mut temps = 0;
         for stmt in stmts {
@@ -71,9 +70,8 @@ impl Names<'_> {
         budget: u32,
         stmt: &Stmt,
     ) -> Result<u64, NoMemory>
-        ensures lines { OnGiven result (string_bytes out.new ≡ string_bytes out.old
-            ++ code_text self.now margin.now budget (one stmt.now)) }
-        ensures temps { IfGiven result (λ temps. temps ≡ temps_of (one stmt.now)) }
+        ensures { IfGiven result (PutsCode self.now margin.now budget (one stmt.now)
+            (string_bytes out.old) (string_bytes out.new)) }
     {
         match stmt {
             Stmt::Assign(target, expr) => self.put_assign(out, margin, target, expr),
@@ -90,7 +88,6 @@ impl Names<'_> {
 
     /// Puts the lines of an `if` with no `else` after a text. Returns the number of its temps.
     #[cycle(statement)]
-    #[tactic(auto, using(crate::proofs::Lines::temps))]
     fn put_if(
         &self,
         out: &mut String,
@@ -99,11 +96,9 @@ impl Names<'_> {
         condition: &Expr,
         then: &[Stmt],
     ) -> Result<u64, NoMemory>
-        ensures lines { OnGiven result (string_bytes out.new ≡ string_bytes out.old
-            ++ code_text self.now margin.now budget
-            (if_ (phrase condition.now) (statements then.now) done)) }
-        ensures temps { IfGiven result (λ temps.
-            temps ≡ temps_of (if_ (phrase condition.now) (statements then.now) done)) }
+        ensures { IfGiven result (PutsCode self.now margin.now budget
+            (if_ (phrase condition.now) (statements then.now) done)
+            (string_bytes out.old) (string_bytes out.new)) }
     {
         let value = self.put_value(out, margin, 0, condition)?;
         let test = test_of(self.alloc, &value)?;
@@ -121,7 +116,6 @@ impl Names<'_> {
 
     /// Puts the lines of an `if` with an `else` after a text. Returns the number of its temps.
     #[cycle(statement)]
-    #[tactic(auto, using(crate::proofs::Lines::temps))]
     fn put_if_else(
         &self,
         out: &mut String,
@@ -131,11 +125,9 @@ impl Names<'_> {
         then: &[Stmt],
         other: &[Stmt],
     ) -> Result<u64, NoMemory>
-        ensures lines { OnGiven result (string_bytes out.new ≡ string_bytes out.old
-            ++ code_text self.now margin.now budget
-            (if_else (phrase condition.now) (statements then.now) (statements other.now) done)) }
-        ensures temps { IfGiven result (λ temps. temps ≡ temps_of
-            (if_else (phrase condition.now) (statements then.now) (statements other.now) done)) }
+        ensures { IfGiven result (PutsCode self.now margin.now budget
+            (if_else (phrase condition.now) (statements then.now) (statements other.now) done)
+            (string_bytes out.old) (string_bytes out.new)) }
     {
         let value = self.put_value(out, margin, 0, condition)?;
         let test = test_of(self.alloc, &value)?;
@@ -154,7 +146,6 @@ impl Names<'_> {
 
     /// Puts the lines of a `while` after a text. Returns the number of its temps.
     #[cycle(statement)]
-    #[tactic(auto, using(crate::proofs::Lines::temps))]
     fn put_while(
         &self,
         out: &mut String,
@@ -163,11 +154,9 @@ impl Names<'_> {
         condition: &Expr,
         body: &[Stmt],
     ) -> Result<u64, NoMemory>
-        ensures lines { OnGiven result (string_bytes out.new ≡ string_bytes out.old
-            ++ code_text self.now margin.now budget
-            (while_ (phrase condition.now) (statements body.now) done)) }
-        ensures temps { IfGiven result (λ temps.
-            temps ≡ temps_of (while_ (phrase condition.now) (statements body.now) done)) }
+        ensures { IfGiven result (PutsCode self.now margin.now budget
+            (while_ (phrase condition.now) (statements body.now) done)
+            (string_bytes out.old) (string_bytes out.new)) }
     {
         let inner = deeper(self.alloc, margin)?;
         let mut round = String::new(self.alloc);
@@ -178,7 +167,6 @@ impl Names<'_> {
 
     /// Puts the lines of a `for` after a text. Returns the number of its temps.
     #[cycle(statement)]
-    #[tactic(auto, using(crate::proofs::Lines::temps))]
     fn put_for(
         &self,
         out: &mut String,
@@ -191,17 +179,12 @@ impl Names<'_> {
         step: &Expr,
         body: &[Stmt],
     ) -> Result<u64, NoMemory>
-        ensures lines { OnGiven result (string_bytes out.new ≡ string_bytes out.old
-            ++ code_text self.now margin.now budget
+        ensures { IfGiven result (PutsCode self.now margin.now budget
             (for_ first.now.at (phrases first.now.index.items) (phrase start.now)
             (phrase condition.now)
             target.now.at (phrases target.now.index.items) (phrase step.now)
-            (statements body.now) done)) }
-        ensures temps { IfGiven result (λ temps. temps ≡ temps_of
-            (for_ first.now.at (phrases first.now.index.items) (phrase start.now)
-            (phrase condition.now)
-            target.now.at (phrases target.now.index.items) (phrase step.now)
-            (statements body.now) done)) }
+            (statements body.now) done)
+            (string_bytes out.old) (string_bytes out.new)) }
     {
         let started = self.put_assign(out, margin, first, start)?;
         let inner = deeper(self.alloc, margin)?;

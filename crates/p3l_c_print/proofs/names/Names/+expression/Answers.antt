@@ -7,7 +7,7 @@ use Rattle.p3l_c_print.specs.Name.{literal_text}
 use Rattle.p3l_c_print.specs.Line.{set_line}
 use Rattle.p3l_c_print.specs.Text.{temp_text, spots_text}
 use Rattle.p3l_c_print.specs.Value.{number_value, index_text, signed_of, bound_line, own_temp}
-use Rattle.p3l_c_print.proofs.Joined.{given_beside, given_weaker, given_as}
+use Rattle.p3l_c_print.proofs.Joined.{given_weaker, given_as, given_so, given_both}
 use Rattle.p3l_c_print.proofs.Expressions.{read_tree, unary_tree, binary_tree, number_lines, number_held, read_lines, read_held, operand_lines, operand_held, truth_lines, unary_lines, unary_held, combined_front, combined_held, decided_front, decided_held}
 use Rattle.p3l_c_print.proofs.Indices.{first_left, lines_step, spots_step, after_step, lines_all, spots_all}
 use Rattle.p3l_c_print.proofs.Weights.{weight, weight_at}
@@ -35,51 +35,45 @@ put_indices-put_value-requires t c =
 
 -- a number, and an operator before its operand
 
-pub put_value-returns-in_ok-literal-in-Number-clause-lines : goal.put_value-returns-in_ok-literal-in-Number-clause-lines
-put_value-returns-in_ok-literal-in-Number-clause-lines t c =
-    number_lines c.args.self.now c.args.margin.now (string_bytes c.args.out.now) c.args.first c.args.expr.now c.in-Number.number c.in-Number.is
-
-pub put_value-returns-in_ok-literal-in-Number-clause-value : goal.put_value-returns-in_ok-literal-in-Number-clause-value
-put_value-returns-in_ok-literal-in-Number-clause-value t c =
+pub put_value-returns-in_ok-literal-in-Number : goal.put_value-returns-in_ok-literal-in-Number
+put_value-returns-in_ok-literal-in-Number t c =
     let z = c.in-Number.number in
     let fits : FitsSigned w64 z = search rules in
     let text = c.in_ok-literal-in-Number.ensures ∙ ap literal_text (to_z-of_z w64 z fits) in
-    c.number_value.ensures ∙ ap (λ text. number_value text c.args.first 0) text ∙ number_held c.args.self.now c.args.first c.args.expr.now z c.in-Number.is
+    record {
+      lines = number_lines c.args.self.now c.args.margin.now (string_bytes c.args.out.now) c.args.first c.args.expr.now z c.in-Number.is;
+      value = c.number_value.ensures ∙ ap (λ text. number_value text c.args.first 0) text ∙ number_held c.args.self.now c.args.first c.args.expr.now z c.in-Number.is;
+    }
 
-pub put_value-returns-in-Read-clause-lines : goal.put_value-returns-in-Read-clause-lines
-put_value-returns-in-Read-clause-lines t c = rw (read_tree c.args.expr.now c.in-Read.target c.in-Read.is) c.put_read.ensures.lines
+pub put_value-returns-in-Read : goal.put_value-returns-in-Read
+put_value-returns-in-Read t c = rw (read_tree c.args.expr.now c.in-Read.target c.in-Read.is) c.put_read.ensures
 
-pub put_value-returns-in-Read-clause-value : goal.put_value-returns-in-Read-clause-value
-put_value-returns-in-Read-clause-value t c = rw (read_tree c.args.expr.now c.in-Read.target c.in-Read.is) c.put_read.ensures.value
+pub put_value-returns-in_ok-value-in-Unary : goal.put_value-returns-in_ok-value-in-Unary
+put_value-returns-in_ok-value-in-Unary t c =
+    let operand = c.in_ok-value-in-Unary in
+    given_so c.applied.result _ _
+    (λ it is. record {
+      lines = unary_lines c.args.self.now c.args.margin.now c.args.first c.args.expr.now c.deref.result.now c.in-Unary.op c.in-Unary.operand (string_bytes c.args.out.now) (string_bytes c.put_operand.new.out) c.in-Unary.is c.deref.ensures operand.ensures.lines;
+      value = is ∙ unary_held c.args.self.now c.args.first c.args.expr.now c.deref.result.now c.in-Unary.op c.in-Unary.operand operand.value c.in-Unary.is c.deref.ensures operand.ensures.value;
+    })
+    c.applied.ensures
 
-pub put_value-returns-in_ok-value-in-Unary-clause-lines : goal.put_value-returns-in_ok-value-in-Unary-clause-lines
-put_value-returns-in_ok-value-in-Unary-clause-lines t c =
-    given_beside c.applied.result _ c.applied.ensures
-    (unary_lines c.args.self.now c.args.margin.now c.args.first c.args.expr.now c.deref.result.now c.in-Unary.op c.in-Unary.operand (string_bytes c.args.out.now) (string_bytes c.put_operand.new.out) c.in-Unary.is c.deref.ensures c.in_ok-value-in-Unary.ensures.lines)
-
-pub put_value-returns-in_ok-value-in-Unary-clause-value : goal.put_value-returns-in_ok-value-in-Unary-clause-value
-put_value-returns-in_ok-value-in-Unary-clause-value t c =
-    given_as c.applied.result _ _ (unary_held c.args.self.now c.args.first c.args.expr.now c.deref.result.now c.in-Unary.op c.in-Unary.operand c.in_ok-value-in-Unary.value c.in-Unary.is c.deref.ensures c.in_ok-value-in-Unary.ensures.value) c.applied.ensures
-
-pub put_value-returns-in-Binary-clause-lines : goal.put_value-returns-in-Binary-clause-lines
-put_value-returns-in-Binary-clause-lines t c =
-    rw (binary_tree c.args.expr.now c.deref-in-Binary.result.now c.deref-in-Binary-2.result.now _ _ _ c.in-Binary.is c.deref-in-Binary.ensures c.deref-in-Binary-2.ensures) c.put_binary.ensures.lines
-
-pub put_value-returns-in-Binary-clause-value : goal.put_value-returns-in-Binary-clause-value
-put_value-returns-in-Binary-clause-value t c =
-    rw (binary_tree c.args.expr.now c.deref-in-Binary.result.now c.deref-in-Binary-2.result.now _ _ _ c.in-Binary.is c.deref-in-Binary.ensures c.deref-in-Binary-2.ensures) c.put_binary.ensures.value
+pub put_value-returns-in-Binary : goal.put_value-returns-in-Binary
+put_value-returns-in-Binary t c =
+    rw (binary_tree c.args.expr.now c.deref-in-Binary.result.now c.deref-in-Binary-2.result.now _ _ _ c.in-Binary.is c.deref-in-Binary.ensures c.deref-in-Binary-2.ensures) c.put_binary.ensures
 
 -- an object
 
-pub put_read-returns-clause-lines : goal.put_read-returns-clause-lines
-put_read-returns-clause-lines t c =
-    read_lines c.args.self.now c.args.margin.now c.args.first c.args.target.now.at (string_bytes c.args.out.now) (string_bytes c.put_indices.new.out) c.sizes-sizes.result.now c.args.target.now.index.items c.as_slice.result.now
-    c.sizes-sizes.ensures c.as_slice.ensures.value c.in_ok-spots.ensures.lines
-
-pub put_read-returns-clause-value : goal.put_read-returns-clause-value
-put_read-returns-clause-value t c =
-    c.number_value.ensures
-    ∙ read_held c.args.self.now c.args.first c.args.target.now.at c.args.target.now.index.items c.as_slice.result.now c.in_ok-spots.spots c.in_ok-text.text c.as_slice.ensures.value c.in_ok-spots.ensures.spots c.in_ok-text.ensures
+pub put_read-returns : goal.put_read-returns
+put_read-returns t c =
+    let x = c.args.target.now.at in
+    let items = c.args.target.now.index.items in
+    record {
+      lines = read_lines c.args.self.now c.args.margin.now c.args.first x (string_bytes c.args.out.now) (string_bytes c.put_indices.new.out) c.sizes-sizes.result.now items c.as_slice.result.now
+          c.sizes-sizes.ensures c.as_slice.ensures.value c.in_ok-spots.ensures.lines;
+      value = c.number_value.ensures
+          ∙ read_held c.args.self.now c.args.first x items c.as_slice.result.now c.in_ok-spots.spots c.in_ok-text.text c.as_slice.ensures.value c.in_ok-spots.ensures.spots c.in_ok-text.ensures;
+    }
 
 -- indices
 
@@ -134,26 +128,35 @@ put_truth_of-returns-clause-lines t c =
 
 -- operators between operands
 
-pub put_combined-returns-clause-lines : goal.put_combined-returns-clause-lines
-put_combined-returns-clause-lines t c =
+pub put_combined-returns : goal.put_combined-returns
+put_combined-returns t c =
     let own : own_temp c.args.op (is_steady (phrase c.args.right.now)) ≡ false = search rules in
-    given_weaker c.combined.result (combined_front c.args.self.now c.args.margin.now c.args.first c.args.op (phrase c.args.left.now) (phrase c.args.right.now) (string_bytes c.args.out.now) (string_bytes c.put_operand.new.out) (string_bytes c.put_operand-2.new.out) (string_bytes c.combined.new.out) c.in_ok-one.one c.in_ok-two.two
-    own c.in_ok-one.ensures.lines c.in_ok-one.ensures.value c.in_ok-two.ensures.lines c.in_ok-two.ensures.value) c.combined.ensures.lines
+    let names = c.args.self.now in
+    let e = phrase c.args.left.now in
+    let f = phrase c.args.right.now in
+    let one = c.in_ok-one in
+    let two = c.in_ok-two in
+    given_both c.combined.result _ _ _
+    (λ it lines is. record {
+      lines = combined_front names c.args.margin.now c.args.first c.args.op e f (string_bytes c.args.out.now) (string_bytes c.put_operand.new.out) (string_bytes c.put_operand-2.new.out) (string_bytes c.combined.new.out) one.one two.two
+          own one.ensures.lines one.ensures.value two.ensures.lines two.ensures.value lines;
+      value = is ∙ combined_held names c.args.first c.args.op e f one.one two.two own one.ensures.value two.ensures.value;
+    })
+    c.combined.ensures.lines c.combined.ensures.value
 
-pub put_combined-returns-clause-value : goal.put_combined-returns-clause-value
-put_combined-returns-clause-value t c =
-    let own : own_temp c.args.op (is_steady (phrase c.args.right.now)) ≡ false = search rules in
-    given_as c.combined.result _ _ (combined_held c.args.self.now c.args.first c.args.op (phrase c.args.left.now) (phrase c.args.right.now) c.in_ok-one.one c.in_ok-two.two own c.in_ok-one.ensures.value c.in_ok-two.ensures.value) c.combined.ensures.value
-
-pub put_decided-returns-clause-lines : goal.put_decided-returns-clause-lines
-put_decided-returns-clause-lines t c =
+pub put_decided-returns : goal.put_decided-returns
+put_decided-returns t c =
     let own : own_temp c.args.op (is_steady (phrase c.args.right.now)) ≡ true = search rules in
-    given_beside c.decided.result _ c.decided.ensures
-    (decided_front c.args.self.now c.args.margin.now c.args.first c.args.op (phrase c.args.left.now) (phrase c.args.right.now) (string_bytes c.args.out.now) (string_bytes c.put_truth_of.new.out) (string_bytes c.put_undecided.new.out)
-    c.as_str.result.now (string_bytes c.new-inner.result) c.as_str-2.result.now c.in_ok-start.start c.in_ok-one.one own c.in_ok-start.ensures (c.as_str.ensures ∙ c.in_ok-inside.ensures) c.new-inner.ensures.bytes
-    c.in_ok-one.ensures.lines c.in_ok-one.ensures.value (c.as_str-2.ensures.value ∙ c.in_ok-two.ensures.lines) c.in_ok-put_undecided.ensures)
-
-pub put_decided-returns-clause-value : goal.put_decided-returns-clause-value
-put_decided-returns-clause-value t c =
-    let own : own_temp c.args.op (is_steady (phrase c.args.right.now)) ≡ true = search rules in
-    given_as c.decided.result _ _ (decided_held c.args.self.now c.args.first c.args.op (phrase c.args.left.now) (phrase c.args.right.now) c.in_ok-start.start c.in_ok-one.one c.in_ok-two.two own c.in_ok-start.ensures c.in_ok-one.ensures.value c.in_ok-two.ensures.value) c.decided.ensures
+    let names = c.args.self.now in
+    let e = phrase c.args.left.now in
+    let f = phrase c.args.right.now in
+    let one = c.in_ok-one in
+    let two = c.in_ok-two in
+    given_so c.decided.result _ _
+    (λ it is. record {
+      lines = decided_front names c.args.margin.now c.args.first c.args.op e f (string_bytes c.args.out.now) (string_bytes c.put_truth_of.new.out) (string_bytes c.put_undecided.new.out)
+          c.as_str.result.now (string_bytes c.new-inner.result) c.as_str-2.result.now c.in_ok-start.start one.one own c.in_ok-start.ensures (c.as_str.ensures ∙ c.in_ok-inside.ensures) c.new-inner.ensures.bytes
+          one.ensures.lines one.ensures.value (c.as_str-2.ensures.value ∙ two.ensures.lines) c.in_ok-put_undecided.ensures;
+      value = is ∙ decided_held names c.args.first c.args.op e f c.in_ok-start.start one.one two.two own c.in_ok-start.ensures one.ensures.value two.ensures.value;
+    })
+    c.decided.ensures

@@ -1,20 +1,15 @@
-use Rattle.std.proofs.Common.{◌≡◌, ◌+◌, [], ◌++◌, drop, max, string_bytes, Result, Ok, Err, sym, ap, ◌∙◌, refl, arith}
-use Rattle.p3l_base.specs.Memory.{IfGiven, OnGiven}
+use Rattle.std.proofs.Common.{◌≡◌, ◌+◌, [], ◌++◌, drop, max, string_bytes, sym, ap, ◌∙◌, refl, arith, rules}
 use Rattle.p3l_ast.specs.Tree.{phrase, phrases, one, statements}
 use Rattle.p3l_c.specs.Temps.{temps_of}
 use Rattle.p3l_c_print.specs.Name.{Names}
 use Rattle.p3l_c_print.specs.Value.{code_text, assign_text, round_text, block_of}
 use Rattle.p3l_c_print.specs.Line.{begin_lines, choice_lines}
-use Rattle.p3l_c_print.proofs.Joined.{then}
+use Rattle.p3l_c_print.proofs.Joined.{then, given_both}
 use Rattle.p3l_c_print.proofs.Functions.{one_more, none_more}
-use Rattle.p3l_c_print.proofs.Lines.{assign_tree, if_tree, if_else_tree, while_tree, for_tree, temps_assign, statement_left, none_left, temps_left, no_temps_left}
+use Rattle.p3l_c_print.proofs.Lines.{code_assign, temps, assign_tree, if_tree, if_else_tree, while_tree, for_tree, temps_assign, statement_left, none_left, temps_left, no_temps_left}
 use Rattle.p3l_c_print.proofs.Puts.{if_put, if_else_put, while_put, loop_of, rounds_put, for_put}
 use Rattle.p3l_c_print.proofs.Sizes.{size_of, size_at}
 use Rattle.p3l_c_print.proofs.names.Names.+statement.Goals as goal
-
-given_so : {A E : Type 0} (r : Result A E) (P Q : A → Type 0) → ((x : A) → P x → Q x) → IfGiven r P → IfGiven r Q
-given_so (Ok x) P Q go h = go x h
-given_so (Err e) P Q go h = h
 
 pub put_statement-put_if-requires : goal.put_statement-put_if-requires
 put_statement-put_if-requires t c =
@@ -41,32 +36,28 @@ put_statements-put_statement-requires t c =
     let e = size_at c.args.stmts.now c.loop-stmt.stmt-index c.stmt-item.result c.loop-stmt-test.true c.stmt-item.is in
     (omega arith, tt)
 
-pub put_statement-returns-in-Assign-clause-lines : goal.put_statement-returns-in-Assign-clause-lines
-unfolding code_text assign_text
-put_statement-returns-in-Assign-clause-lines t c = rw (assign_tree c.args.stmt.now c.in-Assign.target c.in-Assign.expr c.in-Assign.is) c.put_assign.ensures.lines
+pub put_statement-returns-in-Assign : goal.put_statement-returns-in-Assign
+put_statement-returns-in-Assign t c =
+    let x = c.in-Assign.target.at in
+    let is = phrases c.in-Assign.target.index.items in
+    let e = phrase c.in-Assign.expr in
+    let tree = assign_tree c.args.stmt.now c.in-Assign.target c.in-Assign.expr c.in-Assign.is in
+    let code = ap (code_text c.args.self.now c.args.margin.now c.args.budget) tree ∙ code_assign c.args.self.now c.args.margin.now c.args.budget x is e in
+    given_both c.put_assign.result _ _ _
+    (λ count lines temps. record { lines = lines ∙ ap (λ text. string_bytes c.args.out.now ++ text) (sym code); temps = temps ∙ sym (ap temps_of tree ∙ temps_assign x is e) })
+    c.put_assign.ensures.lines c.put_assign.ensures.temps
 
-pub put_statement-returns-in-Assign-clause-temps : goal.put_statement-returns-in-Assign-clause-temps
-put_statement-returns-in-Assign-clause-temps t c =
-    let whole = ap temps_of (assign_tree c.args.stmt.now c.in-Assign.target c.in-Assign.expr c.in-Assign.is) ∙ temps_assign c.in-Assign.target.at (phrases c.in-Assign.target.index.items) (phrase c.in-Assign.expr) in
-    given_so c.put_assign.result _ _ (λ x h. h ∙ sym whole) c.put_assign.ensures.temps
+pub put_statement-returns-in-None : goal.put_statement-returns-in-None
+put_statement-returns-in-None t c = rw (if_tree c.args.stmt.now c.in-If.condition c.in-If.then c.in-If.other c.deref-in-None.result.now c.in-If.is c.in-None.is c.deref-in-None.ensures.value) c.put_if.ensures
 
-pub put_statement-returns-in-None-clause-lines : goal.put_statement-returns-in-None-clause-lines
-put_statement-returns-in-None-clause-lines t c = rw (if_tree c.args.stmt.now c.in-If.condition c.in-If.then c.in-If.other c.deref-in-None.result.now c.in-If.is c.in-None.is c.deref-in-None.ensures.value) c.put_if.ensures.lines
+pub put_statement-returns-in-Some : goal.put_statement-returns-in-Some
+put_statement-returns-in-Some t c = rw (if_else_tree c.args.stmt.now c.in-If.condition c.in-If.then c.in-Some.other c.in-If.other c.deref.result.now c.deref-in-Some.result.now c.in-If.is c.in-Some.is c.deref.ensures.value c.deref-in-Some.ensures.value) c.put_if_else.ensures
 
-pub put_statement-returns-in-None-clause-temps : goal.put_statement-returns-in-None-clause-temps
-put_statement-returns-in-None-clause-temps t c = rw (if_tree c.args.stmt.now c.in-If.condition c.in-If.then c.in-If.other c.deref-in-None.result.now c.in-If.is c.in-None.is c.deref-in-None.ensures.value) c.put_if.ensures.temps
+pub put_statement-returns-in-While : goal.put_statement-returns-in-While
+put_statement-returns-in-While t c = rw (while_tree c.args.stmt.now c.in-While.condition c.in-While.body c.deref-in-While.result.now c.in-While.is c.deref-in-While.ensures.value) c.put_while.ensures
 
-pub put_statement-returns-in-Some-clause-lines : goal.put_statement-returns-in-Some-clause-lines
-put_statement-returns-in-Some-clause-lines t c = rw (if_else_tree c.args.stmt.now c.in-If.condition c.in-If.then c.in-Some.other c.in-If.other c.deref.result.now c.deref-in-Some.result.now c.in-If.is c.in-Some.is c.deref.ensures.value c.deref-in-Some.ensures.value) c.put_if_else.ensures.lines
-
-pub put_statement-returns-in-Some-clause-temps : goal.put_statement-returns-in-Some-clause-temps
-put_statement-returns-in-Some-clause-temps t c = rw (if_else_tree c.args.stmt.now c.in-If.condition c.in-If.then c.in-Some.other c.in-If.other c.deref.result.now c.deref-in-Some.result.now c.in-If.is c.in-Some.is c.deref.ensures.value c.deref-in-Some.ensures.value) c.put_if_else.ensures.temps
-
-pub put_statement-returns-in-While-clause-lines : goal.put_statement-returns-in-While-clause-lines
-put_statement-returns-in-While-clause-lines t c = rw (while_tree c.args.stmt.now c.in-While.condition c.in-While.body c.deref-in-While.result.now c.in-While.is c.deref-in-While.ensures.value) c.put_while.ensures.lines
-
-pub put_statement-returns-in-While-clause-temps : goal.put_statement-returns-in-While-clause-temps
-put_statement-returns-in-While-clause-temps t c = rw (while_tree c.args.stmt.now c.in-While.condition c.in-While.body c.deref-in-While.result.now c.in-While.is c.deref-in-While.ensures.value) c.put_while.ensures.temps
+pub put_statement-returns-in-For : goal.put_statement-returns-in-For
+put_statement-returns-in-For t c = rw (for_tree c.args.stmt.now c.in-For.first c.in-For.next c.in-For.start c.in-For.condition c.in-For.step c.in-For.body c.deref-in-For.result.now c.in-For.is c.deref-in-For.ensures.value) c.put_for.ensures
 
 pub put_statements-loop-stmt-preserved : goal.put_statements-loop-stmt-preserved
 put_statements-loop-stmt-preserved t c =
@@ -82,60 +73,60 @@ put_statements-loop-stmt-preserved t c =
       temps = temps_left stmts i s l.temps c.in_ok-more.more c.max-temps.result (temps_of (statements stmts)) c.loop-stmt-test.true c.stmt-item.is c.in_ok-more.ensures.temps c.max-temps.ensures l.invariant.temps;
     }
 
-pub put_statement-returns-in-For-clause-lines : goal.put_statement-returns-in-For-clause-lines
-put_statement-returns-in-For-clause-lines t c = rw (for_tree c.args.stmt.now c.in-For.first c.in-For.next c.in-For.start c.in-For.condition c.in-For.step c.in-For.body c.deref-in-For.result.now c.in-For.is c.deref-in-For.ensures.value) c.put_for.ensures.lines
-
-pub put_statement-returns-in-For-clause-temps : goal.put_statement-returns-in-For-clause-temps
-put_statement-returns-in-For-clause-temps t c = rw (for_tree c.args.stmt.now c.in-For.first c.in-For.next c.in-For.start c.in-For.condition c.in-For.step c.in-For.body c.deref-in-For.result.now c.in-For.is c.deref-in-For.ensures.value) c.put_for.ensures.temps
-
-pub put_statements-returns-clause-lines : goal.put_statements-returns-clause-lines
-put_statements-returns-clause-lines t c =
+pub put_statements-returns : goal.put_statements-returns
+put_statements-returns t c =
     let l = c.loop-stmt in
     let names = c.args.self.now in
     let margin = c.args.margin.now in
     let budget = c.args.budget in
     let stmts = c.args.stmts.now in
-    none_more (string_bytes l.out) (code_text names margin budget (statements (drop l.stmt-index stmts))) _ (none_left names margin budget stmts l.stmt-index c.loop-stmt-test.false) l.invariant.lines
+    record {
+      lines = none_more (string_bytes l.out) (code_text names margin budget (statements (drop l.stmt-index stmts))) _ (none_left names margin budget stmts l.stmt-index c.loop-stmt-test.false) l.invariant.lines;
+      temps = no_temps_left stmts l.stmt-index l.temps (temps_of (statements stmts)) c.loop-stmt-test.false l.invariant.temps;
+    }
 
-pub put_statements-returns-clause-temps : goal.put_statements-returns-clause-temps
-put_statements-returns-clause-temps t c =
-    let l = c.loop-stmt in
-    let stmts = c.args.stmts.now in
-    no_temps_left stmts l.stmt-index l.temps (temps_of (statements stmts)) c.loop-stmt-test.false l.invariant.temps
-
-pub put_if-returns-clause-lines : goal.put_if-returns-clause-lines
-put_if-returns-clause-lines t c =
+pub put_if-returns : goal.put_if-returns
+put_if-returns t c =
     let margin = c.args.margin.now in
     let middle = string_bytes c.put_value.new.out in
     let block = c.in_ok-block.block in
-    if_put c.args.self.now margin c.args.budget (phrase c.args.condition.now) (statements c.args.then.now) (string_bytes c.args.out.now) middle (string_bytes c.put_choice.new.out) c.as_str.result.now c.in_ok-value.value block
-    c.in_ok-value.ensures.lines c.in_ok-value.ensures.value (c.as_str.ensures ∙ c.in_ok-test.ensures) c.in_ok-block.ensures
-    (c.in_ok-put_choice.ensures ∙ ap (λ x. middle ++ choice_lines margin c.as_str.result.now x []) c.as_str-2.ensures)
+    record {
+      lines = if_put c.args.self.now margin c.args.budget (phrase c.args.condition.now) (statements c.args.then.now) (string_bytes c.args.out.now) middle (string_bytes c.put_choice.new.out) c.as_str.result.now c.in_ok-value.value block
+          c.in_ok-value.ensures.lines c.in_ok-value.ensures.value (c.as_str.ensures ∙ c.in_ok-test.ensures) c.in_ok-block.ensures
+          (c.in_ok-put_choice.ensures ∙ ap (λ x. middle ++ choice_lines margin c.as_str.result.now x []) c.as_str-2.ensures);
+      temps = search (rules, temps);
+    }
 
-pub put_if_else-returns-clause-lines : goal.put_if_else-returns-clause-lines
-put_if_else-returns-clause-lines t c =
+pub put_if_else-returns : goal.put_if_else-returns
+put_if_else-returns t c =
     let margin = c.args.margin.now in
     let middle = string_bytes c.put_value.new.out in
     let first = c.in_ok-first.first in
     let second = c.in_ok-second.second in
-    if_else_put c.args.self.now margin c.args.budget (phrase c.args.condition.now) (statements c.args.then.now) (statements c.args.other.now) (string_bytes c.args.out.now) middle (string_bytes c.put_choice.new.out) c.as_str.result.now c.in_ok-value.value first second
-    c.in_ok-value.ensures.lines c.in_ok-value.ensures.value (c.as_str.ensures ∙ c.in_ok-test.ensures) c.in_ok-first.ensures c.in_ok-second.ensures
-    (c.in_ok-put_choice.ensures ∙ ap (λ x. middle ++ choice_lines margin c.as_str.result.now x c.as_str-3.result.now) c.as_str-2.ensures ∙ ap (λ x. middle ++ choice_lines margin c.as_str.result.now first.text x) c.as_str-3.ensures)
+    record {
+      lines = if_else_put c.args.self.now margin c.args.budget (phrase c.args.condition.now) (statements c.args.then.now) (statements c.args.other.now) (string_bytes c.args.out.now) middle (string_bytes c.put_choice.new.out) c.as_str.result.now c.in_ok-value.value first second
+          c.in_ok-value.ensures.lines c.in_ok-value.ensures.value (c.as_str.ensures ∙ c.in_ok-test.ensures) c.in_ok-first.ensures c.in_ok-second.ensures
+          (c.in_ok-put_choice.ensures ∙ ap (λ x. middle ++ choice_lines margin c.as_str.result.now x c.as_str-3.result.now) c.as_str-2.ensures ∙ ap (λ x. middle ++ choice_lines margin c.as_str.result.now first.text x) c.as_str-3.ensures);
+      temps = search (rules, temps);
+    }
 
-pub put_while-returns-clause-lines : goal.put_while-returns-clause-lines
-put_while-returns-clause-lines t c =
+pub put_while-returns : goal.put_while-returns
+put_while-returns t c =
     let names = c.args.self.now in
     let margin = c.args.margin.now in
     let e = phrase c.args.condition.now in
     let a = statements c.args.body.now in
     let old = string_bytes c.args.out.now in
     let none = string_bytes c.new-round.result in
-    while_put names margin c.in_ok-inner.inner c.args.budget e a old (string_bytes c.put_loop.new.out) none (string_bytes c.put_round.new.out)
-    c.in_ok-inner.ensures c.new-round.ensures.bytes (c.in_ok-temps.ensures.lines ∙ ap (λ m. none ++ round_text names m c.args.budget a) c.as_str.ensures)
-    (c.in_ok-tested.ensures.lines ∙ ap (λ r. old ++ loop_of names margin e r) c.as_str-2.ensures.value)
+    record {
+      lines = while_put names margin c.in_ok-inner.inner c.args.budget e a old (string_bytes c.put_loop.new.out) none (string_bytes c.put_round.new.out)
+          c.in_ok-inner.ensures c.new-round.ensures.bytes (c.in_ok-temps.ensures.lines ∙ ap (λ m. none ++ round_text names m c.args.budget a) c.as_str.ensures)
+          (c.in_ok-tested.ensures.lines ∙ ap (λ r. old ++ loop_of names margin e r) c.as_str-2.ensures.value);
+      temps = search (rules, temps);
+    }
 
-pub put_for-returns-clause-lines : goal.put_for-returns-clause-lines
-put_for-returns-clause-lines t c =
+pub put_for-returns : goal.put_for-returns
+put_for-returns t c =
     let names = c.args.self.now in
     let margin = c.args.margin.now in
     let budget = c.args.budget in
@@ -155,7 +146,10 @@ put_for-returns-clause-lines t c =
     c.in_ok-inner.ensures c.new-round.ensures.bytes (c.in_ok-turned.ensures.lines ∙ ap (λ m. none ++ round_text names m budget a) c.as_str.ensures)
     (c.in_ok-stepped.ensures.lines ∙ ap (λ m. round ++ assign_text names m y.name js f) c.as_str-2.ensures)
     (c.in_ok-tested.ensures.lines ∙ ap (λ r. middle ++ loop_of names margin e r) c.as_str-3.ensures.value) in
-    for_put names margin budget x is (phrase c.args.start.now) e y js f a a (string_bytes c.args.out.now) middle new refl c.in_ok-started.ensures.lines turning
+    record {
+      lines = for_put names margin budget x is (phrase c.args.start.now) e y js f a a (string_bytes c.args.out.now) middle new refl c.in_ok-started.ensures.lines turning;
+      temps = search (rules, temps);
+    }
 
 pub put_round-returns-clause-lines : goal.put_round-returns-clause-lines
 unfolding round_text
