@@ -12,7 +12,7 @@ use Rattle.p3l_c_print.specs.declared.names.Kind.TheVariants.{In, Out, Local}
 use Rattle.p3l_c_print.specs.declared.names.Place.{Place}
 use Rattle.p3l_body.specs.Seq.{SeqTree}
 use Rattle.p3l_c_print.specs.Name.{Names, kind_text, kept_name, place_text, found_text, name_text, entered, all_entered, names_of}
-use Rattle.p3l_c_print.specs.Laws.{vars_of, object_text, IsCountable, IsVariable, IsDistinct}
+use Rattle.p3l_c_print.specs.Laws.{vars_of, IsCountable, IsVariable, IsDistinct}
 use Rattle.p3l_c_print.proofs.Kept.{kept_le}
 
 -- texts whose first bytes differ

@@ -1,17 +1,17 @@
 -- The lines of a body depend on the sizes of its names alone, and its names have the same sizes as its variables and constants.
-use Rattle.std.proofs.Common.{◌≡◌, ℕ, ℤ, ◌+◌, ◌&&◌, Bool, true, false, cond, List, [], ◌∷◌, ◌++◌, Some, None, refl, sym, ap, ◌∙◌, append_assoc, append-nil}
+use Rattle.std.proofs.Common.{◌≡◌, ℕ, ◌+◌, Bool, true, false, cond, List, [], ◌∷◌, ◌++◌, Some, None, refl, sym, ap, ◌∙◌, append_assoc, append-nil}
 use Rattle.std.specs.Prelude.{bytes_eq, map, Option, is_some}
 use Rattle.std.specs.Map.{lookup}
 use Rattle.std.proofs.lemmas.Slice.Eq.{bytes_eq-Decides}
 use Rattle.p3l_ast.specs.declared.expression.BinOp.{BinOp}
-use Rattle.p3l_ast.specs.declared.expression.BinOp.TheVariants.{Or, And, BitOr, BitXor, BitAnd, Eq, Ne, Lt, Le, Gt, Ge, Shl, Shr, Add, Sub, Mul, Div, Rem}
+use Rattle.p3l_ast.specs.declared.expression.BinOp.TheVariants.{Or, And}
 use Rattle.p3l_ast.specs.Tree as tree
 use Rattle.p3l_ast.specs.Tree.{Phrase, read, unary, binary, Phrases, none, more, Statements, assign, if_, if_else, while_, for_}
 use Rattle.p3l_types.specs.Constants.{Constants}
 use Rattle.p3l_body.specs.declared.var.Var.{Var}
 use Rattle.p3l_body.specs.Seq.{SeqTree}
 use Rattle.p3l_c.specs.Syntax.{Signed, Lines, done, keep, write, choose, forever, truth, temp}
-use Rattle.p3l_c.specs.Translate.{Shapes, declared, given_sizes, sizes_at, test_of, next, next_all, spots, first_temp, after_operand, is_deep, is_steady, kept_value, kept_lines, around, guards, value, before, before_all, first_size, other_sizes, index_guard, assign_lines, turn_lines, lines}
+use Rattle.p3l_c.specs.Translate.{Shapes, declared, given_sizes, sizes_at, test_of, next, next_all, spots, first_temp, after_operand, is_deep, is_steady, kept_value, kept_lines, around, value, before, before_all, first_size, other_sizes, index_guard, assign_lines, turn_lines, lines}
 use Rattle.p3l_c.specs.Condition.{vars_shapes, scalar, variables_in, shapes_in}
 use Rattle.p3l_c_print.specs.declared.names.Place.{Place}
 use Rattle.p3l_c_print.specs.declared.names.Kind.{Kind}

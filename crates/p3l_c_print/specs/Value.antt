@@ -1,7 +1,6 @@
 -- The value of an expression as a text of C, and the lines before its use.
-use Rattle.std.specs.Prelude.{◌≡◌, ℕ, ℤ, pos, negsuc, ◌+◌, Bool, true, false, not, List, [], ◌∷◌, ◌++◌, codes, Option, Some, None, max, nat_le, if◌then◌else◌}
+use Rattle.std.specs.Prelude.{◌≡◌, ℕ, pos, negsuc, ◌+◌, Bool, true, false, not, List, [], ◌++◌, codes, max, nat_le, if◌then◌else◌}
 use Rattle.std.specs.Fmt.{decimal}
-use Rattle.p3l_base.specs.declared.outcome.TrapKind.{TrapKind}
 use Rattle.p3l_base.specs.declared.outcome.TrapKind.TheVariants.{DivZero, DivOver, Index, Shift}
 use Rattle.p3l_ast.specs.declared.expression.UnOp.{UnOp}
 use Rattle.p3l_ast.specs.declared.expression.UnOp.TheVariants.{Neg, Not, Flip}
@@ -9,15 +8,15 @@ use Rattle.p3l_ast.specs.declared.expression.BinOp.{BinOp}
 use Rattle.p3l_ast.specs.declared.expression.BinOp.TheVariants.{Or, And, BitOr, BitXor, BitAnd, Eq, Ne, Lt, Le, Gt, Ge, Shl, Shr, Add, Sub, Mul, Div, Rem}
 use Rattle.p3l_ast.specs.Meaning.Operator.{least}
 use Rattle.p3l_ast.specs.Tree.{Phrase, Phrases, Statements}
-use Rattle.p3l_c.specs.Syntax.{Signed, truth, Lines, done}
-use Rattle.p3l_c.specs.Translate.{next, next_all, height, is_plain, spots, value, before, before_all, assign_lines, lines}
+use Rattle.p3l_c.specs.Syntax.{Signed, truth, done}
+use Rattle.p3l_c.specs.Translate.{next, next_all, height, spots, value, before, before_all, assign_lines, lines}
 use Rattle.p3l_c_print.specs.declared.operator.Class.{Class}
 use Rattle.p3l_c_print.specs.declared.operator.Class.TheVariants.{Short, Compared, Computed, Guarded}
 use Rattle.p3l_c_print.specs.declared.value.Value.{Value}
 use Rattle.p3l_c_print.specs.declared.value.Spots.{Spots}
 use Rattle.p3l_c_print.specs.declared.value.Block.{Block}
 use Rattle.p3l_c_print.specs.Name.{Names, literal_text, shapes_of}
-use Rattle.p3l_c_print.specs.Line.{set_line, stop_line, begin_lines, deeper, choice_lines}
+use Rattle.p3l_c_print.specs.Line.{set_line, stop_line, begin_lines, choice_lines}
 use Rattle.p3l_c.specs.Temps.{temps_of}
 use Rattle.p3l_c_print.specs.Text.{signed_text, test_text, between, temp_text, spots_text, lines_text}
 

@@ -1,4 +1,4 @@
-use Rattle.std.proofs.Common.{◌≡◌, ◌+◌, ◌++◌, drop, map}
+use Rattle.std.proofs.Common.{◌+◌, drop, map}
 use Rattle.p3l_body.specs.Seq.{seq_tree}
 use Rattle.p3l_c_print.specs.Bodies.{one_text, functions_text}
 use Rattle.p3l_c_print.proofs.Functions.{one_more, none_more}

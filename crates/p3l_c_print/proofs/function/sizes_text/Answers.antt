@@ -1,4 +1,4 @@
-use Rattle.std.proofs.Common.{◌≡◌, ◌+◌, ◌++◌, drop, get_or, string_bytes, refl, ap, ◌∙◌}
+use Rattle.std.proofs.Common.{◌+◌, ◌++◌, drop, get_or, string_bytes, refl, ap, ◌∙◌}
 use Rattle.p3l_c_print.specs.Function.{size_text, sizes_text}
 use Rattle.p3l_c_print.proofs.Functions.{one_more, none_more, size_left, no_size_left}
 use Rattle.p3l_c_print.proofs.function.sizes_text.Goals as goal

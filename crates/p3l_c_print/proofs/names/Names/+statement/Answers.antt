@@ -1,4 +1,4 @@
-use Rattle.std.proofs.Common.{◌≡◌, ◌+◌, [], ◌++◌, drop, max, string_bytes, sym, ap, ◌∙◌, refl, arith, rules}
+use Rattle.std.proofs.Common.{[], ◌++◌, drop, string_bytes, sym, ap, ◌∙◌, refl, arith, rules}
 use Rattle.p3l_ast.specs.Tree.{phrase, phrases, one, statements}
 use Rattle.p3l_c.specs.Temps.{temps_of}
 use Rattle.p3l_c_print.specs.Name.{Names}

@@ -1,4 +1,4 @@
-use Rattle.std.proofs.Common.{◌≡◌, ℕ, ◌+◌, ◌≤◌, List, drop, get_or, length, sym, ap, ◌∙◌}
+use Rattle.std.proofs.Common.{◌≡◌, ℕ, ◌+◌, List, drop, sym, ap, ◌∙◌}
 use Rattle.p3l_types.specs.Constants.{Constants}
 use Rattle.p3l_c_print.specs.declared.names.Place.{Place}
 use Rattle.p3l_c_print.specs.Name.{Names, all_entered, entered}

@@ -1,4 +1,4 @@
-use Rattle.std.proofs.Common.{◌≡◌, ◌+◌, ◌++◌, drop, map, string_bytes, ap, ◌∙◌}
+use Rattle.std.proofs.Common.{◌≡◌, ◌++◌, drop, map, string_bytes, ap, ◌∙◌}
 use Rattle.p3l_c.specs.Condition.{zero_entry}
 use Rattle.p3l_c_print.specs.Name.{name_text}
 use Rattle.p3l_c_print.specs.Function.{zero_text, entries_text}
