@@ -10,7 +10,7 @@ returns-in-Err-clause-refused c =
 pub returns-in-Err-load-clause-refused : goal.returns-in-Err-load-clause-refused
 returns-in-Err-load-clause-refused c =
     let i = c.in-Ok.image in
-    subst (IsUnloadable c.args.bytes.now) (sym c.from.ensures)
+    subst (IsUnloadable c.args.bytes.now) (sym c.from-in-Err-load.ensures)
     (unrunnable c.args.bytes.now i c.in-Ok.ensures.found (same_image c.args.bytes.now i c.in-Ok.ensures.only) c.in-Err-load.refusal c.in-Err-load.ensures.refused)
 
 pub returns-in-Ok-load-clause-loaded : goal.returns-in-Ok-load-clause-loaded

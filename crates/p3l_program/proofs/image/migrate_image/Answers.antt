@@ -16,7 +16,7 @@ returns-in-Err-decode-clause-refused g c =
     let r = c.in-Err-decode.refusal in
     let only = subst (λ (b : List ℕ). (i : Image) → IsImage i b → Answers b (Err r) (Ok i)) c.as_slice.ensures c.in-Err-decode.ensures.only in
     let exact = subst (λ (b : List ℕ). Answers b (Err r) (image_in b)) c.as_slice.ensures c.in-Err-decode.ensures.exact in
-    subst (λ v. IsNotLoaded files (migrate_stages c.args.name) v) (sym c.from.ensures)
+    subst (λ v. IsNotLoaded files (migrate_stages c.args.name) v) (sym c.from-in-Err-decode.ensures)
     (not_decoded files c.args.name bytes c.in-Ok.ensures.found c.in-Ok.ensures.calm (migratable c.args.name ∷ []) _ (undecoded bytes r only exact))
 
 pub returns-clause-refused : goal.returns-clause-refused
@@ -26,7 +26,7 @@ returns-clause-refused g c =
     let i = c.in-Ok-decode.image in
     let found = subst (λ (b : List ℕ). IsImage i b) c.as_slice.ensures c.in-Ok-decode.ensures.found in
     let only = subst (λ (b : List ℕ). (other : Image) → IsImage other b → Answers b (Ok i) (Ok other)) c.as_slice.ensures c.in-Ok-decode.ensures.only in
-    subst (λ v. IsNotLoaded files (migrate_stages c.args.name) v) (sym c.from.ensures)
+    subst (λ v. IsNotLoaded files (migrate_stages c.args.name) v) (sym c.from-in-Err-migrate.ensures)
     (not_migrated files c.args.name bytes c.in-Ok.ensures.found c.in-Ok.ensures.calm i found (same_image bytes i only) c.in-Err-migrate.refusal c.in-Err-migrate.ensures.refused)
 
 pub returns-in-Ok-migrate-clause-migrated : goal.returns-in-Ok-migrate-clause-migrated
