@@ -5,13 +5,13 @@ use Rattle.p3l_program.proofs.OnceSteps.{program_network}
 use Rattle.p3l_program.proofs.TimeSteps.{loaded_prices}
 use Rattle.p3l_program.proofs.plan.load_linked.Goals as goal
 
-pub returns-in-Ok-link_allotted-clause-loaded : goal.returns-in-Ok-link_allotted-clause-loaded
-returns-in-Ok-link_allotted-clause-loaded g c =
+pub returns-in-Ok-clause-loaded : goal.returns-in-Ok-clause-loaded
+returns-in-Ok-clause-loaded g c =
     let loads = c.in_ok-allotted.ensures.loaded in
-    let linked = c.in-Ok-link_allotted.linked in
-    let same = c.in-Ok-link_allotted.ensures.network loads.r loads.is.comes.compiled in
-    let tree = c.in-Ok-link_allotted.ensures.tree in
-    let costs = c.in-Ok-link_allotted.ensures.costs in record {
+    let linked = c.in-Ok.linked in
+    let same = c.in-Ok.ensures.network loads.r loads.is.comes.compiled in
+    let tree = c.in-Ok.ensures.tree in
+    let costs = c.in-Ok.ensures.costs in record {
       network = program_network (g.F.Files.held c.args.files.now) c.args.build loads.r c.in_ok-allotted.allotted loads.is (network_in linked.network) same;
       priced = loaded_prices (g.F.Files.held c.args.files.now) c.args.build c.in_ok-allotted.allotted loads.r loads.is (network_in linked.network) linked.network.tree linked.network.net linked.costs same refl refl costs;
       lawful = subst (λ t. AreCostsOf t linked.costs) (sym (tree ∙ loads.is.comes.compiled.tree_is)) (subst (λ x. AreCostsOf loads.r.tree x) (sym costs) loads.is.lawful);

@@ -10,6 +10,7 @@ use Rattle.p3l_program.proofs.source.load_priced.Goals as goal
 pub returns-in_err-chosen-clause-refused : goal.returns-in_err-chosen-clause-refused
 returns-in_err-chosen-clause-refused g c =
     let p = err_from_is_err_and c.from_residual-in_err-chosen.result c.from_residual-in_err-chosen.ensures.1 in
+    let v = c.in_err-chosen.field-0.0 in
     let loaded = c.in_ok-source.ensures.loaded in
     let held = g.F.Files.held in
     let faults = g.F.Files.faults in
@@ -17,8 +18,8 @@ returns-in_err-chosen-clause-refused g c =
     let end = c.choose_counts.new.files in
     let same = same_change (held c.load_source.new.files) (held c.args.files.now) (held end) (faults c.load_source.new.files) (faults c.args.files.now) (faults end) (failed end) c.load_source.ensures.stays c.in_ok-source.ensures.calm in
     rw (p.1, p.2)
-    (unchosen (files_change held faults failed c.args.files.now end) c.args.build loaded.is.r c.in_ok-source.source.tree loaded.text loaded.has loaded.is.comes _
-    (subst (λ files. IsUnchosen files c.args.build.costs c.in_ok-source.source.tree c.args.build.processors _) same c.in_err-chosen.ensures.refused))
+    (unchosen (files_change held faults failed c.args.files.now end) c.args.build loaded.is.r c.in_ok-source.source.tree loaded.text loaded.has loaded.is.comes v
+    (subst (λ files. IsUnchosen files c.args.build.costs c.in_ok-source.source.tree c.args.build.processors v) same c.in_err-chosen.ensures.refused))
 
 pub returns-clause-loaded : goal.returns-clause-loaded
 returns-clause-loaded g c =
