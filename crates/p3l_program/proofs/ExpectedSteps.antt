@@ -41,6 +41,13 @@ expected_no_memory words w v (inr (inr (inl u))) = inr (inr (inl (record { verdi
 expected_no_memory words w v (inr (inr (inr u))) =
     inl (record { command = u.command; spelled = u.spelled; expected = inl u.untouched; kept = unsaved_no_memory w.files (written_of u.command) (saved_first u.command) u.some u.kept; touched = inr ((lawful u.command).touches w u.some) })
 
+-- an input that is let alone, of which this rest and these faults are known
+abbrev pub quiet : Option (List ℕ) → (faults : ℕ) → Change (List ℕ)
+quiet rest faults = record { old = rest; new = rest; before = faults; now = faults; failed = None }
+
+still : (rest : Option (List ℕ)) (faults : ℕ) → IsStill (quiet rest faults)
+still rest faults = record { known = refl; calm = refl }
+
 -- a verdict is expected of words that spell a command, by the shape of its work
 module _ {words : List Text} {c : Command} (spelled : Spells words c) where
   of_work : (w : World) (k : Work) (v : Verdict) → work_of c ≡ k → IsExpectedBy w (behavior k) v → KeepsFirst w.files (behavior k).written (behavior k).saved_first v →
@@ -79,32 +86,26 @@ module _ {words : List Text} {c : Command} (spelled : Spells words c) where
 
   -- those that let the input alone
   module _ {files : Change Held} {out : Change (List ℕ)} {rest : Option (List ℕ)} {faults : ℕ} {v : Verdict} where
-    abbrev pub quiet : Change (List ℕ)
-    quiet = record { old = rest; new = rest; before = faults; now = faults; failed = None }
-
-    still : IsStill quiet
-    still = record { known = refl; calm = refl }
-
     pub text_requested : {stages : List Stage} {IsText : Option Held → List ℕ → Type 0} → work_of c ≡ write_text stages IsText → IsTextExpected files out stages (IsText files.old) v →
-        files.new ≡ files.old → IsExpected words (world files quiet out) v
-    text_requested {stages} {IsText} is expected same = of_work (world files quiet out) (write_text stages IsText) v is (expected quiet still) (kept_by files [] v same) (inl same)
+        files.new ≡ files.old → IsExpected words (world files (quiet rest faults) out) v
+    text_requested {stages} {IsText} is expected same = of_work (world files (quiet rest faults) out) (write_text stages IsText) v is (expected (quiet rest faults) (still rest faults)) (kept_by files [] v same) (inl same)
 
     pub saving_requested : {stages : List Stage} {IsText : Option Held → List ℕ → Type 0} {name : List ℕ} {IsBytes : Option Held → List ℕ → Type 0} → work_of c ≡ save_file stages IsText name IsBytes →
-        IsSavingExpected files out stages (IsText files.old) name (IsBytes files.old) v → KeepsFiles files (name ∷ []) v → IsExpected words (world files quiet out) v
-    saving_requested {stages} {IsText} {name} {IsBytes} is expected kept = of_work (world files quiet out) (save_file stages IsText name IsBytes) v is (expected quiet still) kept (inr tt)
+        IsSavingExpected files out stages (IsText files.old) name (IsBytes files.old) v → KeepsFiles files (name ∷ []) v → IsExpected words (world files (quiet rest faults) out) v
+    saving_requested {stages} {IsText} {name} {IsBytes} is expected kept = of_work (world files (quiet rest faults) out) (save_file stages IsText name IsBytes) v is (expected (quiet rest faults) (still rest faults)) kept (inr tt)
 
     pub file_requested : {stages : List Stage} {name : List ℕ} {IsBytes : Option Held → List ℕ → Type 0} → work_of c ≡ save_file stages (λ held. IsNothing) name IsBytes → IsStill out →
-        IsFileExpected files stages name (IsBytes files.old) v → KeepsFiles files (name ∷ []) v → IsExpected words (world files quiet out) v
+        IsFileExpected files stages name (IsBytes files.old) v → KeepsFiles files (name ∷ []) v → IsExpected words (world files (quiet rest faults) out) v
     file_requested is silent expected kept = saving_requested is (expected out silent) kept
 
-    pub gen_requested : {g : Gen} → work_of c ≡ run_generated g → IsGenExpected files out g v ⊎ IsGenUnsaved files out g v → IsExpected words (world files quiet out) v
-    gen_requested {g} is (inl h) = of_work (world files quiet out) (run_generated g) v is (h.expected quiet still) h.kept (inr tt)
+    pub gen_requested : {g : Gen} → work_of c ≡ run_generated g → IsGenExpected files out g v ⊎ IsGenUnsaved files out g v → IsExpected words (world files (quiet rest faults) out) v
+    gen_requested {g} is (inl h) = of_work (world files (quiet rest faults) out) (run_generated g) v is (h.expected (quiet rest faults) (still rest faults)) h.kept (inr tt)
     gen_requested is (inr h) = inr (inr (inr (record {
       verdict_is = h.verdict_is;
       command = c;
       spelled = spelled;
       some = subst (λ j. (behavior j).saved_first ≢ []) (sym is) h.some;
-      untouched = record { input = still; out = h.silent };
+      untouched = record { input = still rest faults; out = h.silent };
       failed = subst (λ j. HasOneFailed files (behavior j).written) (sym is) h.failed;
       kept = subst (λ j. KeepsBut files (behavior j).written) (sym is) h.kept;
     })))

@@ -10,7 +10,6 @@ use Rattle.p3l_cost.specs.declared.costs.Costs.{Costs}
 use Rattle.p3l_cost.specs.declared.refusal.CostRefusal.{CostRefusal}
 use Rattle.p3l_cost.specs.declared.refusal.CostRefusal.TheVariants as costs
 use Rattle.p3l_cost.specs.File.{IsRead}
-use Rattle.p3l_alloc.specs.Chosen.{IsShort}
 use Rattle.p3l_cert.specs.declared.cert.Cert.{Cert}
 use Rattle.p3l_cert.specs.Certified.{AreNeededRows}
 use Rattle.p3l_cert.specs.Checker.{CertHolds}

@@ -1,4 +1,5 @@
-use Rattle.std.proofs.Common.{refl, rules, subst, inl, inr}
+use Rattle.std.proofs.Common.{refl, rules, subst, inl, inr, ap, ◌∙◌}
+use Rattle.std.specs.declared.result.Result.TheVariants.{Err}
 use Rattle.p3l_opts.specs.declared.command.Command.TheVariants as command
 use Rattle.p3l_opts.specs.Command.{Spells, texts_of}
 use Rattle.p3l_program.specs.Command.{work_of}
@@ -6,6 +7,14 @@ use Rattle.p3l_program.proofs.ExpectedSteps.{check_requested, file_requested, ge
 use Rattle.p3l_program.proofs.ExportSteps.{choice_within}
 use Rattle.p3l_program.proofs.GenSteps.{items_few}
 use Rattle.p3l_program.proofs.top.perform.Goals as goal
+
+pub returns-in-Err-Usage-clause-expected : goal.returns-in-Err-Usage-clause-expected
+returns-in-Err-Usage-clause-expected g c = inr (inl (record {
+  verdict_is = refl;
+  none = c.parse.ensures.usage (c.in-Err-Usage.is ∙ ap Err c.in-Err-Usage.field-0-is);
+  untouched = record { input = record { known = refl; calm = refl }; out = record { known = refl; calm = refl } };
+  files = record { known = refl; calm = refl };
+}))
 
 pub returns-in-Ok-Check-clause-expected : goal.returns-in-Ok-Check-clause-expected
 unfolding work_of
