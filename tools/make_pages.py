@@ -28,7 +28,7 @@ from repository import ROOT
 TYPED_WIDTH = WIDTH - 7 + len(TYPED)
 # How the sources write a number of refusal with its name: as two rows of matches, or in a line.
 NUMBERED = re.compile(r"\b(?:Line)?Fault::(\w+) => (\d+),")
-PRINTED = re.compile(r'"(?:\w+: )?(\d+) ([A-Z]\w+)')
+PRINTED = re.compile(r'"(?:[\w{} ]+: )*(\d+) ([A-Z]\w+)')
 # How the sources write a row of the table of commands, an option in it, and the name of a value.
 ROW = re.compile(r'\(\s*Verb::\w+,\s*"([a-z-]+)",\s*&\[(.*?)\]', re.S)
 OPTION = re.compile(r"\b(?:Mandatory|Optional|Flag)\((\w+)\)")
