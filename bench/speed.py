@@ -4,9 +4,9 @@
     bench/speed.py PATH_OF_P3L [--tries N] [--rows WORDS] [--busy]
 
   a firing          `run` of pipes of 10 and 100 runs and of farms of 8, 64 and 508 workers, channels of 4 and of 64 tokens, beside
-                    the same networks in C (bench/machine.c), once with a write a value as results are put, and once with 64 KiB
-                    of results gathered as p3l gathers them. The start, which chooses the counts, is included: it is
-                    some hundredths where a pipe fires ten million times
+                    the same networks in C (bench/machine.c), once with 64 KiB of results gathered as p3l gathers them, which
+                    the bound is for, and once with a write a value as results are put. The start, which chooses the counts, is
+                    included: it is some hundredths where a pipe fires ten million times
   bodies            a nested loop, and a million items through three statements (bench/bodies), beside Lua 5.4, and beside the
                     form of a body that is verified and written to images: `profile` runs that on a stack, without a network
   lines             a million lines through one body and through a pipe of four, to a file, beside mawk; the pipe beside one with
@@ -82,8 +82,8 @@ class Bench:
             items = self.numbers(fired // each)
             for capacity in (4, 64):
                 ours = self.run(source, "--processors", "512", "--capacity", str(capacity))
-                peers = [[machine, kind, str(size), str(capacity), how] for how in ("each", "gathered")]
-                self.row(f"a firing, {kind} of {size}, capacity {capacity}", ours, peers, items, 2.0, 1e9 / fired, "ns")
+                peers = [[machine, kind, str(size), str(capacity), how] for how in ("gathered", "each")]
+                self.row(f"a firing, {kind} of {size}, capacity {capacity}", ours, peers, items, 1.3, 1e9 / fired, "ns")
 
     def bodies(self):
         for body, bound, items in (("nested", 0.6, self.file("turns", "150000\n")), ("short", 0.5, self.numbers(ITEMS))):

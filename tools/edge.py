@@ -11,15 +11,18 @@ UTF-8, and no memory for the words; and the calls of the system are counted that
 write results. The last line is `N passed, M failed`.
 """
 
+import fcntl
 import os
 import pty
 import re
 import resource
 import shutil
 import signal
+import struct
 import subprocess
 import sys
 import tempfile
+import termios
 import time
 
 DOUBLE = b"seq main in(int x) out(int y)\n${ y = x * 2 + 1; }$\nend seq\n"
@@ -473,38 +476,50 @@ LONG_LINES = [
     (b"9", b"\n", 6, b"", b"stream: line 1: 102 OutOfRange\n"),
     (b"x", b"\n", 6, b"", b"stream: line 1: 100 BadWord\n"),
 ]
-SHORT_LINE, LONG_LINE, MOST_GROWTH = 1 << 16, 1 << 26, 1 << 20
+CHUNK, LONG_LINE, MOST_GROWTH = 1 << 16, 1 << 26, 1 << 20
+PIPES = {"stdin": subprocess.PIPE, "stdout": subprocess.PIPE, "stderr": subprocess.PIPE}
 
 
-def memory_on(edge, piece, count, end):
-    """How a run ends on a long line, and the most memory that it had."""
-    pipes = {"stdin": subprocess.PIPE, "stdout": subprocess.PIPE, "stderr": subprocess.PIPE}
-    child = edge.start(RUN, **pipes)
-    chunk = piece * (SHORT_LINE // len(piece))
-    try:
-        for _ in range(count // SHORT_LINE):
-            child.stdin.write(chunk)
-        child.stdin.write(end)
-        child.stdin.flush()
-    except BrokenPipeError:
-        # a refused line may be refused before its end
-        pass
-    # What is still in the pipe is little, beside what was read by then.
+def wait_until_read(pipe):
+    """Waits until all that was written to a pipe is read."""
+    end = time.monotonic() + SECONDS
+    while struct.unpack("i", fcntl.ioctl(pipe, termios.FIONREAD, bytes(4)))[0]:
+        if time.monotonic() > end:
+            raise subprocess.TimeoutExpired("reading a line", SECONDS)
+        time.sleep(0.001)
+
+
+def most_memory(child):
+    """The most bytes of memory that a process had that has not ended."""
     with open(f"/proc/{child.pid}/status") as status:
-        most = [int(line.split()[1]) for line in status if line.startswith("VmHWM")]
-    output, lines = child.communicate(timeout=SECONDS)
-    return (child.returncode, output, lines), (most or [0])[0] * 1024
+        return next(int(line.split()[1]) * 1024 for line in status if line.startswith("VmHWM"))
+
+
+def run_on_line(edge, piece, size, end):
+    """How a run ends on a line of this size, and the most bytes that it had before the line's end.
+
+    A line is refused at its end, so the run has not ended when its memory is read.
+    """
+    child = edge.start(RUN, **PIPES)
+    for _ in range(size // CHUNK):
+        child.stdin.write(piece * (CHUNK // len(piece)))
+    child.stdin.flush()
+    wait_until_read(child.stdin)
+    most = most_memory(child)
+    output, lines = child.communicate(end, timeout=SECONDS)
+    return (child.returncode, output, lines), most
 
 
 def try_long_lines(edge):
     """Memory doesn't grow with a line, and the run ends on it as it should."""
     for piece, end, status, output, lines in LONG_LINES:
-        _, few = memory_on(edge, piece, SHORT_LINE, end)
-        found, many = memory_on(edge, piece, LONG_LINE, end)
+        _, usual = run_on_line(edge, piece, CHUNK, end)
+        found, most = run_on_line(edge, piece, LONG_LINE, end)
         if b"%d" in lines:
             lines = lines % (LONG_LINE // len(piece))
         edge.expect(("a long line", piece), found, (status, output, lines))
-        edge.expect(("memory for a long line", piece, few, many), many - few < MOST_GROWTH, True)
+        what = "memory for a long line", piece, usual, most
+        edge.expect(what, most - usual < MOST_GROWTH, True)
 
 
 ATTEMPTS = [try_version, try_full, try_pieces, try_pipes, try_terminals, try_left, try_calls]

@@ -18,8 +18,8 @@ use std::env;
 use std::io::{ErrorKind, Write};
 use std::process::ExitCode;
 
-/// The words of the command line, the program's own name first. Where one of them is not UTF-8
-/// there are none, and no words are no command.
+/// Returns the words of the command line, the program's own name first. If one of them is not
+/// UTF-8, it returns no words, and no words are no command.
 fn words_of(rt: &HostRuntime) -> Result<Vec<String>, NoMemory> {
     match env::args(rt) {
         Ok(args) => Ok(args.collect(rt.alloc())?),

@@ -26,7 +26,8 @@ pub fn wants_long(rt: &HostRuntime, is_terminal: bool) -> bool {
     }
 }
 
-/// How places are shown: in colour at a terminal, unless the variable `NO_COLOR` has a value.
+/// Returns the style of places: in colour at a terminal, unless the variable `NO_COLOR` has a
+/// value.
 pub fn style_of(rt: &HostRuntime, is_terminal: bool) -> Style {
     let is_plain = match env::var(rt, "NO_COLOR") {
         Ok(value) => !value.as_str().is_empty(),

@@ -15,7 +15,7 @@ use Rattle.p3l_model.specs.Service.{service, transfer, ticks, farm_ends, map_end
 use Rattle.p3l_advise.specs.declared.bottleneck.Term.{Term}
 use Rattle.p3l_advise.specs.declared.bottleneck.Term.TheVariants.{Reading, Work, Writing}
 
--- whether a node of this form is a stage of its own, as all but pipes are
+-- true exactly if a node of this form is a stage of its own, as all but pipes are
 abbrev pub is_stage : Form → Bool
 is_stage Seq = true
 is_stage Comp = true

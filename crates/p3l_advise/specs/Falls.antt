@@ -4,7 +4,7 @@ use Rattle.std.specs.Fmt.{decimal}
 use Rattle.std.specs.List.{flat_map, range_with_len}
 use Rattle.p3l_alloc.specs.declared.allocation.Best.{Best}
 
--- whether the best service time falls at a number of processors: no fewer fit, or with one fewer it is later
+-- true exactly if the best service time falls at a number of processors: no fewer fit, or with one fewer it is later
 abbrev pub falls : (ℕ → Best) → (least p : ℕ) → Bool
 falls best least p = (p == least) || nat_lt (best p).service (best (p - 1)).service
 

@@ -16,7 +16,7 @@ use Rattle.p3l_advise.specs.declared.bottleneck.Term.TheVariants.{Reading, Work,
 abbrev pub indent : ℕ → List ℕ
 indent depth = flat_map (λ level. codes "  ") (range_with_len 0 depth)
 
--- how a part of a node's time is written
+-- the name of a part of a node's time
 abbrev pub term_name : Term → List ℕ
 term_name Reading = codes "reading"
 term_name Work = codes "its work"

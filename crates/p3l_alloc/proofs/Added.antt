@@ -121,7 +121,7 @@ walk_start tree rows below t p later parts before is can = record {
   cost = λ ys l. omega arith;
 }
 
--- what comes from a stage on
+-- the stages from one on are that stage and those after it
 from_stage : (below : ℕ → Costed) (parts : List ℕ) (i : ℕ) → i < length parts → stages below (drop i parts) ≡ Both (below (get_or parts i 0)) (stages below (drop (i + 1) parts))
 unfolding stages
 from_stage below parts i inside = rw (drop-cons parts i 0 inside, add-one) refl

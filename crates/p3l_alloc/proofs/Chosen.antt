@@ -23,7 +23,7 @@ use Rattle.p3l_alloc.specs.Walk.{first_within, AddsFirst, CanServe, IsFirst}
 use Rattle.p3l_alloc.proofs.First.{row_fewest}
 use Rattle.p3l_alloc.proofs.Rows.{row_fewer}
 
--- what the row of the root says of the soonest service time
+-- t is the soonest service time with at most `most` processes, and p the fewest that reach it
 pub record IsBestRun (a : Costed) (most t p : ℕ) : Type 0 where
   pub small : p ≤ most
   pub can : CanServe a t p
@@ -163,7 +163,7 @@ root_best tree costs most processors time fewest rows row lawful priced table wi
     subst (IsBestRun (costed tree costs 0) processors time) (sym least)
     (best_from (costed tree costs 0) processors time row (root_row tree costs most processors rows row lawful priced table within is) entry early)
 
--- what a table has for a number of processors, where some counts fit
+-- a table has the best for a number of processors, if some counts fit
 pub best_there : (tree : Tree) (costs : Costs) (most processors : ℕ) (rows : List (List ℕ)) (counts : List ℕ) → IsLawfulTree tree → AreCostsOf tree costs → IsTableFrom tree costs most rows 0 → processors ≤ most → Fits tree processors counts → IsBest tree costs processors (best_at tree rows processors)
 best_there tree costs most processors rows counts lawful priced table within fits =
     let row : List ℕ = row_in tree rows 0 in
@@ -176,7 +176,7 @@ best_there tree costs most processors rows counts lawful priced table within fit
     best_of_run tree costs processors t (first_within t row) lawful priced
     (best_from (costed tree costs 0) processors t row entries refl (omega (arith, q, b, slow)))
 
--- what was added to no counts
+-- counts added to none are the first by themselves
 pub first_alone : (a : Costed) (t p used : ℕ) (before after : List ℕ) → before ≡ [] → AddsFirst a t p before after used → IsFirst a t p after × (used ≡ run_procs a after)
 first_alone a t p used before after none adds =
     let all : after ≡ adds.counts = adds.joined ∙ ap (λ (xs : List ℕ). xs ++ adds.counts) none in

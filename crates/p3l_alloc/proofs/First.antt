@@ -62,7 +62,7 @@ empty_first t p = record {
 }
 
 module _ (a b : Costed) (t p cap l : ℕ) (least : IsFewest b t cap l) (small : p ≤ cap) where
-  -- what the first part may take, so that the second can stay within the time
+  -- the first part can serve with the processes left by the fewest of the second
   pub both_room : CanServe (Both a b) t p → CanServe a t (p - l) × (l ≤ p)
   unfolding run_procs
   both_room can =

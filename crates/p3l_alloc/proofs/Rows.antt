@@ -149,7 +149,7 @@ module _ (tree : Tree) (costs : Costs) (lawful : IsLawfulTree tree) (priced : Ar
   pub sound_at : (k : ℕ) → k < length tree.nodes → IsSound (costed tree costs k)
   sound_at k inside = let subtree = subtree_at tree lawful k inside in (costed_at tree costs lawful priced 6 k subtree.0 subtree.1).sound
 
-  -- what a node needs of its first part
+  -- the first part of a node meets the node's needs
   pub part_ready : (k most from : ℕ) (rows : List (List ℕ)) → k < length tree.nodes → from ≤ k + 1 → IsTableFrom tree costs most rows from → slowest (costed tree costs k) < never → HasPart (node_cost tree costs k) (costed tree costs (slice_index (node_at tree k).parts 0)) most (row_in tree rows (slice_index (node_at tree k).parts 0))
   unfolding node_cost
   part_ready k most from rows inside early table slow =

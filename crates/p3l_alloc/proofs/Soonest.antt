@@ -75,7 +75,7 @@ module _ (t e p : ℕ) (a : Costed) where
         (o.0, record { lawful = o.1.lawful; few = omega arith }, ap (λ x. max e (t * x)) o.2 ∙ omega arith);
   }
 
--- what more workers share of less is no greater
+-- a share of less among more workers is no greater
 share-mono : (h : Sharing) (n m u v : ℕ) → 1 ≤ m → m ≤ n → u ≤ v → shared h n u ≤ shared h m v
 share-mono Items n m u v some more less =
     let whole = ceil_le v m (div_ceil v m) some (omega arith) in
@@ -294,7 +294,7 @@ module _ (a b : Costed) (p : ℕ) where
   unfolding run_procs
   first_within zs f = let few = f.few in omega arith
 
-  -- where the times of two parts cross, with one process fewer for the first or with these, they are soonest
+  -- the soonest time of two parts is at the crossing of their times, or with one process fewer for the first
   pub both_soonest : (first others : List ℕ) (given best : ℕ) → IsRow a p first → IsRow b p others → IsCrossing first others p given → best ≡ min (split_time first others p given) (split_time first others p (given - 1)) → IsSoonest (Both a b) p best
   both_soonest first others given best left right c is = record { top = top; below = below; reached = reached }
     where

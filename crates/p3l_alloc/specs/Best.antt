@@ -17,7 +17,7 @@ pub record IsBest (tree : Tree) (costs : Costs) (processors : ℕ) (best : Best)
   pub time : best.service ≡ service tree costs counts 0
   pub processes : best.used ≡ procs tree counts 0
 
--- what a table has for a number of processors: the soonest service time of the root, and the first number
+-- the best of a table for a number of processors: the soonest service time of the root, and the first number
 -- of processes with which the root has it
 abbrev pub best_at : Tree → List (List ℕ) → ℕ → Best
 best_at tree rows processors = record {

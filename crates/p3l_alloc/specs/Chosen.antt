@@ -7,7 +7,7 @@ use Rattle.p3l_alloc.specs.declared.allocation.AllocRefusal.TheVariants.{TooFew,
 use Rattle.p3l_alloc.specs.Need.{IsLeastProcs}
 use Rattle.p3l_base.specs.Memory.{Refused}
 
--- where there are too few processors, no lawful counts fit, and the number is the least processes of any
+-- the processors are too few: no lawful counts fit, and the number is the least processes of any
 pub record IsShort (tree : Tree) (processors need : ℕ) : Type 0 where
   pub none : (counts : List ℕ) → Fits tree processors counts → ⊥
   pub least : IsLeastProcs tree need

@@ -15,7 +15,7 @@ use Rattle.p3l_model.specs.Service.{service}
 abbrev pub module_name : Tree → ℕ → List ℕ
 module_name tree k = (slice_index_or tree.modules k no_module).name
 
--- how the skeleton of a form is written
+-- the name of a form's skeleton
 abbrev pub kind_name : Form → List ℕ
 kind_name Seq = codes "seq"
 kind_name Comp = codes "comp"

@@ -40,7 +40,7 @@ pub record IsTurned (turns : ℕ) (a : Costed) (most : ℕ) (row : List ℕ) : T
   pub slow : slowest a < never
   pub soonest : IsRow a most row
 
--- what a node of this cost needs of its first part
+-- the first part meets the needs of a node of this cost
 abbrev pub HasPart : NodeCost → Costed → ℕ → List ℕ → Type 0
 HasPart (Unit s) a most row = ⊤
 HasPart Stages a most row = ⊤

@@ -6,8 +6,8 @@
 //!
 //! One table serves each smaller number of processors too.
 //!
-//! What was chosen is explained by a text: what it comes to in all, and for each node that has
-//! processes of its own.
+//! A text explains the choice: the processors, the processes used and the service time in all, and
+//! a line for each node outside units.
 #![tactic(auto)]
 
 pub mod allocation;

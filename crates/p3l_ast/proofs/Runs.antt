@@ -1,4 +1,4 @@
--- What statements and loops make of valuations, one step at a time.
+-- Effects of statements and loops on valuations, one step at a time.
 use Rattle.std.proofs.Common.{◌≡◌, ℕ, ℤ, ◌+◌, ◌-◌, ◌<◌, ◌≤◌, Bool, true, false, cond, List, [], ◌∷◌, Option, Some, None, Result, Ok, Err, IsErrAnd, drop, get_or, length, refl, arith, ap, sym, ◌∙◌, subst}
 use Rattle.std.specs.Prelude.{nat_lt}
 use Rattle.std.specs.declared.vec.Vec.{Vec}
@@ -85,7 +85,7 @@ unfolding run_of run_by
 run_while budget e v s =
     ap (λ c. run_of budget c s) (one_while e v) ∙ run_done (loop_of budget) (loop_of budget (phrase e) (statements v.items) s)
 
--- what a `for` does in each turn
+-- the statements of one turn of a `for`: the body, then the assignment
 abbrev pub stepped : List Stmt → Target → Expr → Statements
 stepped body u f = join (statements body) (assign u.at (phrases u.index.items) (phrase f) done)
 
@@ -103,7 +103,7 @@ run_stepped budget body u f s = run_first budget (statements body) (assign u.at 
     by (Ok m) = run_done (loop_of budget) (assigned u.at.name (phrases u.index.items) (phrase f) m)
     by (Err trap) = refl
 
--- whether a condition holds
+-- the truth of a condition, or its trap
 abbrev pub holding : Phrase → Valuation → Result Bool TrapKind
 holding e s = given (value_of s e) (λ word. Ok (holds word))
 

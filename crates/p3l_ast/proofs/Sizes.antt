@@ -15,7 +15,7 @@ use Rattle.p3l_ast.specs.Meaning.Valuation.{binding_of, sizes_of, rebound, with_
 abbrev pub AreSizes : List ℕ → Type 0
 AreSizes sizes = (length sizes ≤ 3) × All (λ (size : ℕ). size ≤ 65536) sizes
 
--- what is found passes the test, and is what all are
+-- a binding that is found passes the test, and has the property P
 abbrev Found : (Binding → Type 0) → (Binding → Bool) → Option Binding → Type 0
 Found P test None = Unit {0}
 Found P test (Some b) = (test b ≡ true) × P b

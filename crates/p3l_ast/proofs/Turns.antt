@@ -11,7 +11,7 @@ use Rattle.p3l_ast.specs.Meaning.Valuation.{sizes_of, with_word, turned}
 use Rattle.p3l_ast.specs.Meaning.Expression.{given, value_of, place_of}
 use Rattle.p3l_ast.specs.Meaning.Statement.{assigned, chosen, run_by, loop_by, loop_of, run_of}
 
--- what comes of an Ok
+-- an Ok of `given` comes of an Ok, and `go` returns Ok on its value
 given_ok : {A B : Type 0} (P : Type 0) (r : Result A TrapKind) (go : A → Result B TrapKind) (y : B) → given r go ≡ Ok y → ((x : A) → r ≡ Ok x → go x ≡ Ok y → P) → P
 given_ok P (Ok x) go y h k = k x refl h
 given_ok P (Err trap) go y h k = absurd cc

@@ -1,4 +1,4 @@
--- What expressions give, by what they are made of.
+-- Values of expressions, from the values of their parts.
 use Rattle.std.proofs.Common.{◌≡◌, ℕ, ℤ, suc, ◌+◌, ◌*◌, ◌<◌, ◌≤◌, ◌^◌, zero, pos, negsuc, Bool, true, false, cond, get_or, List, [], ◌∷◌, Result, Ok, Err, drop, length, refl, sym, ap, ◌∙◌, arith, add-one}
 use Rattle.std.specs.declared.boxed.Box.{Box}
 use Rattle.std.specs.declared.alloc.Global.{Global}

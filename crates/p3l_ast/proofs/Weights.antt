@@ -1,4 +1,4 @@
--- How many statements are in statements, at any depth.
+-- The number of statements within statements, at any depth.
 use Rattle.std.proofs.Common.{◌≡◌, ℕ, zero, suc, ◌+◌, ◌<◌, ◌≤◌, List, [], ◌∷◌, Option, Some, None, get_or, length, arith, ap}
 use Rattle.std.specs.declared.vec.Vec.{Vec}
 use Rattle.std.specs.declared.alloc.Global.{Global}
@@ -34,7 +34,7 @@ weight_at (s ∷ ss) (suc i) d inside =
     let k : weight (one (get_or ss i d)) ≤ weight (statements ss) = weight_at ss i d (omega arith) in
     omega arith
 
--- what is in a statement weighs less than it
+-- the parts of a statement weigh less than it
 pub then_weighs : (e : Expr) (v : Vec Stmt Global) (o : Option (Vec Stmt Global)) → weight (statements v.items) < weight (one (If e v o))
 then_weighs e v None = let h = ap weight (one_if e v) in omega arith
 then_weighs e v (Some w) = let h = ap weight (one_if_else e v w) in omega arith

@@ -1,4 +1,4 @@
--- What bodies mean.
+-- Meanings of bodies.
 pub mod Operator
 pub mod Valuation
 pub mod Expression

@@ -1,4 +1,4 @@
--- How operators between operands are written, and how tight they bind.
+-- Signs of the operators between operands, and how tight they bind.
 use Rattle.std.specs.Prelude.{ℕ, List, [], ◌∷◌, Option, find, bytes_eq, codes}
 use Rattle.p3l_ast.specs.declared.expression.BinOp.{BinOp}
 use Rattle.p3l_ast.specs.declared.expression.BinOp.TheVariants.{Or, And, BitOr, BitXor, BitAnd, Eq, Ne, Lt, Le, Gt, Ge, Shl, Shr, Add, Sub, Mul, Div, Rem}

@@ -41,7 +41,7 @@ pub data Statements : Type 0 where
   while_ : Phrase → Statements → Statements → Statements
   for_ : Spot → Phrases → Phrase → Phrase → Spot → Phrases → Phrase → Statements → Statements → Statements
 
--- what is inside a module
+-- the contents of a module
 pub data InsideTree : Type 0 where
   body : List Port → Statements → InsideTree
   calls : List Call → InsideTree

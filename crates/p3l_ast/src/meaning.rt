@@ -1,4 +1,4 @@
-// What bodies mean: the plain programs of the definitions.
+// Meanings of bodies: the plain programs of the definitions.
 
 pub mod expression;
 pub mod operator;

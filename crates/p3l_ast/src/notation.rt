@@ -1,5 +1,5 @@
-// How operators between operands are written, and how tight they bind: one table for all who read
-// or print them.
+// Signs of the operators between operands, and how tight they bind: one table for all that read or
+// print them.
 
 ghost use Rattle.std.specs.Prelude.{◌≡◌};
 ghost use Rattle.p3l_ast.specs.Notation.{sign_of, level, operator_among, operator_of};
@@ -64,8 +64,8 @@ impl BinOp {
         sign
     }
 
-    /// How tight the operator binds, from 0 for the loosest to 9; operators before an operand bind
-    /// tighter than all of these.
+    /// Returns how tight the operator binds, from 0 for the loosest to 9. Operators before an
+    /// operand bind tighter than all of these.
     pub fn level(self) -> u8
         ensures { result ≡ level self }
     {

@@ -36,7 +36,7 @@ first_or_later Rest ds i before once later = later before (omega arith)
 first_or_later First ds i before once later = last_first_same ds i
 first_or_later Second ds i before once later = later before (omega arith)
 
--- where First occurs once, it sets the first free index
+-- First sets the first free index if it occurs once
 last_first_once : (dims : List Dim) (i before : ℕ) → first_count dims ≡ 1 → last_first dims i before ≡ i
 last_first_once [] i before once = absurd (omega arith)
 last_first_once (d ∷ ds) i before once = first_or_later d.place ds i before once (λ b h. last_first_once ds i b h)
@@ -46,7 +46,7 @@ second_or_later Rest ds j before once later = later before (omega arith)
 second_or_later First ds j before once later = later before (omega arith)
 second_or_later Second ds j before once later = last_second_same ds j
 
--- where Second occurs once, it sets the second free index
+-- Second sets the second free index if it occurs once
 last_second_once : (dims : List Dim) (j before : ℕ) → second_count dims ≡ 1 → last_second dims j before ≡ j
 last_second_once [] j before once = absurd (omega arith)
 last_second_once (d ∷ ds) j before once = second_or_later d.place ds j before once (λ b h. last_second_once ds j b h)

@@ -7,17 +7,17 @@ use Rattle.p3l_base.specs.declared.slice.Slice.{Slice}
 use Rattle.p3l_base.specs.declared.cut.Cut.{Cut}
 use Rattle.p3l_base.specs.Slice.{array_size, cut_size, cut_words, LiesWithin}
 
--- how many words the arrays of the slices have
+-- the number of words of the arrays of the slices
 abbrev pub token_size : List Slice → ℕ
 token_size [] = 0
 token_size (s ∷ ss) = array_size s.dims + token_size ss
 
--- how many words an element takes from the slices
+-- the number of words of an element in the slices
 abbrev pub element_size : List Slice → ℕ
 element_size [] = 0
 element_size (s ∷ ss) = cut_size s.dims + element_size ss
 
--- how many elements a cut has
+-- the number of elements of a cut
 abbrev pub element_count : Cut → ℕ
 element_count cut = cut.first * cut.second
 
@@ -38,12 +38,12 @@ one_at_second Second = 1
 one_at_second Rest = 0
 one_at_second First = 0
 
--- how often First occurs among the dimensions
+-- the count of First among the dimensions
 abbrev pub first_count : List Dim → ℕ
 first_count [] = 0
 first_count (d ∷ ds) = one_at_first d.place + first_count ds
 
--- how often Second occurs among the dimensions
+-- the count of Second among the dimensions
 abbrev pub second_count : List Dim → ℕ
 second_count [] = 0
 second_count (d ∷ ds) = one_at_second d.place + second_count ds

@@ -5,18 +5,18 @@ use Rattle.p3l_base.specs.declared.slice.Place.TheVariants.{Rest, First, Second}
 use Rattle.p3l_base.specs.declared.slice.Dim.{Dim}
 use Rattle.p3l_base.specs.declared.slice.Slice.{Slice}
 
--- how many words an array has: the product of its sizes
+-- the number of words of an array: the product of its sizes
 abbrev pub array_size : List Dim → ℕ
 array_size [] = 1
 array_size (d ∷ ds) = d.size * array_size ds
 
--- how many indices of a dimension one cut takes
+-- the number of indices of a dimension in one cut
 abbrev pub taken_size : Place → ℕ → ℕ
 taken_size Rest n = n
 taken_size First n = 1
 taken_size Second n = 1
 
--- how many words one cut of an array has: the product of the sizes that are not free
+-- the number of words of one cut of an array: the product of the sizes that are not free
 abbrev pub cut_size : List Dim → ℕ
 cut_size [] = 1
 cut_size (d ∷ ds) = taken_size d.place d.size * cut_size ds

@@ -12,7 +12,7 @@ use crate::words::Words;
 use p3l_refusal::NoMemory;
 use std::alloc::Global;
 
-/// How a map cuts its token into elements: the sizes of the two free indices, the slices whose
+/// A map's cut of its token into elements: the sizes of the two free indices, the slices whose
 /// words an element takes, and those that its result fills. With one free index `second` is 1.
 /// Elements are counted in row-major order of the free indices.
 #[derive(Debug, Drop)]
@@ -97,7 +97,7 @@ pub fn cut_len(dims: &[Dim]) -> usize
     product
 }
 
-// How many indices of a dimension one cut takes.
+// Counts the indices of a dimension that one cut takes.
 fn taken_len(dim: Dim) -> usize
     ensures { result ≡ taken_size dim.place dim.size }
 {

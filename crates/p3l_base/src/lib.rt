@@ -1,4 +1,4 @@
-//! What every layer speaks of: lists, words, names, outcomes of items, and out of memory.
+//! Basics of every layer: lists, words, names, outcomes of items, and out of memory.
 #![tactic(auto)]
 
 pub mod cut;

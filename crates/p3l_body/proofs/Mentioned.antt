@@ -19,7 +19,7 @@ use Rattle.p3l_types.specs.Constants.{Constants}
 use Rattle.p3l_body.specs.Scope.{Names, known_of}
 use Rattle.p3l_body.specs.Mention.{Mention, brackets_of, mentions, index_mentions, place_mentions, assignment_mentions, code_mentions, mention_rule, mentions_rule}
 
--- how many brackets an index has
+-- an index has one bracket for each of its expressions
 pub brackets-length : (es : List Expr) → brackets_of (phrases es) ≡ length es
 brackets-length [] = refl
 brackets-length (e ∷ es) = omega (arith, brackets-length es)
@@ -117,7 +117,7 @@ module _ (constants : Constants) (names : Names) where
   pub code-rule-more : (s : Stmt) (ss : List Stmt) → rule (code_mentions (statements (s ∷ ss))) ≡ given (rule (code_mentions (one s))) (λ x. rule (code_mentions (statements ss)))
   code-rule-more s ss = ap rule (code_mentions-join (one s) (statements ss)) ∙ rule-append constants names (code_mentions (one s)) (code_mentions (statements ss))
 
-  -- what is left, one step on and at the end
+  -- the rule of the rest, one step on and at the end
   pub index-rule-step : (es : List Expr) (i : ℕ) (d : Expr) → i < length es →
       rule (index_mentions (phrases (drop i es))) ≡ given (rule (mentions (phrase (get_or es i d)))) (λ x. rule (index_mentions (phrases (drop (i + 1) es))))
   index-rule-step es i d h = rw (drop_more es i d h) (index-rule-more (get_or es i d) (drop (i + 1) es))
@@ -132,7 +132,7 @@ module _ (constants : Constants) (names : Names) where
   pub code-rule-end : (ss : List Stmt) (i : ℕ) → length ss ≤ i → rule (code_mentions (statements (drop i ss))) ≡ kept
   code-rule-end ss i h = rw (drop_all i ss h) code-rule-none
 
-  -- where the first of the rules left is broken, and where it is kept
+  -- the rule of the rest, if its first rule is broken and if it is kept
   pub index-rule-broken : (es : List Expr) (i : ℕ) (e : Expr) (f : SourceRefusal) → i < length es → e ≡ get_or es i e →
       rule (mentions (phrase e)) ≡ Err f → rule (index_mentions (phrases (drop i es))) ≡ Err f
   index-rule-broken es i e f h is broken =

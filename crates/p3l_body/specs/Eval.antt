@@ -13,7 +13,7 @@ use Rattle.p3l_types.specs.Shape.{product}
 use Rattle.p3l_body.specs.declared.var.Var.{Var}
 use Rattle.p3l_body.specs.Seq.{SeqTree}
 
--- how many words a variable has
+-- the number of words of a variable
 abbrev pub width : Var → ℕ
 width var = product var.shape.sizes
 

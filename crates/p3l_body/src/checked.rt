@@ -6,7 +6,7 @@ ghost use Rattle.p3l_body.specs.Seq.{checked_locals, checked_seq, checked_tree};
 
 use crate::mention::Names;
 use crate::ports::{Ports, budget_of, ports_of, rescue_of};
-use crate::scope::{Scope, declare};
+use crate::scope::{Variables, declare};
 use crate::var::Var;
 use p3l_ast::{Block, Fault, Inside, Module, SourceRefusal, Stmt};
 use p3l_base::List;
@@ -30,7 +30,7 @@ pub struct CheckedSeq<'a> {
 fn locals_of(
     alloc: Global,
     consts: &Consts,
-    scope: &mut Scope,
+    scope: &mut Variables,
     block: &Block,
 ) -> Result<List<Var>, SourceRefusal>
     ensures { Gives result (checked_locals consts.now scope.old block.now.locals (statements
@@ -59,7 +59,7 @@ pub fn check_body<'a>(
 ) -> Result<CheckedSeq<'a>, SourceRefusal>
     ensures { Gives (checked_tree result) (checked_seq consts.now home (module_tree seq.now)) }
 {
-    let mut scope = Scope::new(alloc);
+    let mut scope = Variables::new(alloc);
     let ports = ports_of(
         alloc,
         consts,

@@ -9,5 +9,5 @@ pub mod var;
 
 pub use checked::{CheckedSeq, check_body};
 pub use ports::{Ports, budget_of, limited, ports_of, rescue_of};
-pub use scope::{Known, Scope, declare, declare_one, enter};
+pub use scope::{Known, Variables, declare, declare_one, enter};
 pub use var::Var;

@@ -5,7 +5,7 @@ ghost use Rattle.p3l_ast.specs.Tree.{phrase, phrases, one, statements};
 ghost use Rattle.p3l_body.specs.Scope.{known_of};
 ghost use Rattle.p3l_body.specs.Mention.{mentions, index_mentions, place_mentions, assignment_mentions, code_mentions, mention_rule, mentions_rule, Mention};
 
-use crate::scope::{Known, Scope};
+use crate::scope::{Known, Variables};
 use p3l_ast::{Expr, Fault, SourceRefusal, Spot, Stmt, Target};
 use p3l_types::Consts;
 
@@ -13,7 +13,7 @@ use p3l_types::Consts;
 #[derive(Clone, Copy)]
 pub struct Names<'a> {
     pub consts: &'a Consts,
-    pub scope: &'a Scope,
+    pub scope: &'a Variables,
 }
 
 /// The rules of a name that stands for this, with this many brackets.

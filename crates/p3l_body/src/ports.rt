@@ -4,7 +4,7 @@ ghost use Rattle.std.specs.Prelude.{◌≡◌, [], ◌≤◌, IfOk};
 ghost use Rattle.p3l_types.specs.Verdict.{Gives};
 ghost use Rattle.p3l_body.specs.Seq.{ports_of, port_names, limited, budget_of, signed, rescue_of};
 
-use crate::scope::{Scope, declare};
+use crate::scope::{Variables, declare};
 use crate::var::Var;
 use p3l_ast::meaning::operator::unary;
 use p3l_ast::{Fault, Num, Port, Rescue, SourceRefusal, UnOp};
@@ -24,7 +24,7 @@ pub struct Ports {
 pub fn ports_of(
     alloc: Global,
     consts: &Consts,
-    scope: &mut Scope,
+    scope: &mut Variables,
     ins: &[Port],
     outs: &[Port],
 ) -> Result<Ports, SourceRefusal>

@@ -27,11 +27,11 @@ pub struct Known {
 /// The variables of a module in the order in which they were declared, which contracts see as a list
 /// of their names with what is known of them.
 #[derive(Drop)]
-pub struct Scope {
+pub struct Variables {
     known: IndexMap<Name, Known>,
 }
 
-impl Model for Scope {
+impl Model for Variables {
     ghost use Rattle.p3l_body.specs.Scope.{Names};
 
     ghost Value = { Names };
@@ -39,12 +39,12 @@ impl Model for Scope {
     ghost view = { λ it. it.known.entries };
 }
 
-impl Scope {
+impl Variables {
     /// No variables.
-    pub fn new(alloc: Global) -> Scope
+    pub fn new(alloc: Global) -> Variables
         ensures { result ≡ [] }
     {
-        Scope {
+        Variables {
             known: IndexMap::new(alloc),
         }
     }
@@ -97,7 +97,7 @@ fn measured(alloc: Global, consts: &Consts, words: u64, port: &Port) -> Result<V
 fn check_fresh(
     fault: Fault,
     consts: &Consts,
-    scope: &Scope,
+    scope: &Variables,
     spot: &Spot,
 ) -> Result<(), SourceRefusal>
     ensures { result ≡ fresh fault consts.now scope.now spot.now }
@@ -116,7 +116,7 @@ pub fn declare_one(
     alloc: Global,
     fault: Fault,
     consts: &Consts,
-    scope: &Scope,
+    scope: &Variables,
     words: u64,
     port: &Port,
 ) -> Result<Var, SourceRefusal>
@@ -131,7 +131,12 @@ pub fn declare_one(
 }
 
 /// Adds a variable to a scope.
-pub fn enter(alloc: Global, is_fixed: bool, scope: &mut Scope, var: &Var) -> Result<(), NoMemory>
+pub fn enter(
+    alloc: Global,
+    is_fixed: bool,
+    scope: &mut Variables,
+    var: &Var,
+) -> Result<(), NoMemory>
     requires { lookup (bytes_eq var.now.name) scope.old ≡ None }
     ensures { OnGiven result (scope.new ≡ scope.old ++ named is_fixed var.now ∷ []) }
 {
@@ -150,7 +155,7 @@ pub fn declare(
     fault: Fault,
     is_fixed: bool,
     consts: &Consts,
-    scope: &mut Scope,
+    scope: &mut Variables,
     ports: &[Port],
 ) -> Result<List<Var>, SourceRefusal>
     ensures vars { Gives result (declared fault is_fixed consts.now scope.old 0 ports.now) }

@@ -1,4 +1,4 @@
--- What is declared is new, has sizes, and is not too wide.
+-- Declared variables are new, have sizes, and are not too wide.
 use Rattle.std.proofs.Common.{◌≡◌, ◌≢◌, ℕ, ℤ, ◌+◌, ◌≤◌, Bool, true, false, cond, ◌&&◌, List, [], ◌∷◌, ◌++◌, map, Option, Some, None, Result, Ok, Err, IfOk, refl, sym, ap, subst, arith}
 use Rattle.std.specs.Prelude.{bytes_eq, is_some, nat_le, nat_lt, option_map, if◌then◌else◌}
 use Rattle.std.specs.List.{AllByRecursion}
@@ -20,7 +20,7 @@ use Rattle.p3l_body.specs.Eval.{width}
 use Rattle.p3l_body.specs.Scope.{Names, named, fixed_scalar, known_of, measured, declared_one, declared}
 use Rattle.p3l_compile.specs.Condition.{total, Differ, IsArray}
 
--- what comes of a value that keeps something
+-- a step from a value with a property gives a value with the next property
 pub if_given : {A B : Type 0} (r : Result A SourceRefusal) (go : A → Result B SourceRefusal) (P : A → Type 0) (Q : B → Type 0) →
     IfOk r P → ((a : A) → P a → IfOk (go a) Q) → IfOk (given r go) Q
 if_given (Ok a) go P Q h k = k a h

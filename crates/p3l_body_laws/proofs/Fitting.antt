@@ -22,7 +22,7 @@ use Rattle.p3l_compile.specs.Scope.{Names, found, slot_at, slots_from}
 use Rattle.p3l_compile.specs.Phrase.{count_of, IsAccess, Fits, FitsAll}
 use Rattle.p3l_compile.specs.Statement.{IsTarget, FitsAssign, FitsCode}
 
--- what is known of variables, in their order
+-- the names are those of the variables, in order, with the number of their sizes
 abbrev pub AreNamed : rules.Names → List Var → Type 0
 AreNamed [] [] = Unit {0}
 AreNamed [] (var ∷ vars) = ⊥

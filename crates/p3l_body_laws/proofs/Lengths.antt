@@ -14,7 +14,7 @@ use Rattle.p3l_lexer.specs.declared.mark.Mark.{Mark}
 use Rattle.p3l_lexer.specs.declared.mark.Mark.TheVariants as marks
 use Rattle.p3l_lexer.specs.declared.token.Piece.{Piece}
 use Rattle.p3l_lexer.specs.declared.token.Piece.TheVariants as pieces
-use Rattle.p3l_lexer.specs.declared.token.Token.{Token}
+use Rattle.p3l_lexer.specs.declared.token.TextToken.{TextToken}
 use Rattle.p3l_lexer.specs.Position.{position_after}
 use Rattle.p3l_lexer.specs.Token.{Chunk, IsCutInto, token_at, tokens_after, IsTokens}
 use Rattle.p3l_lexer.proofs.Lexing.{not_empty}
@@ -22,7 +22,7 @@ use Rattle.p3l_grammar.specs.Symbol.{Symbol, sign, symbols}
 use Rattle.p3l_grammar.specs.Written.{Formula, numeral, place, prefix, infix_, paren, Formulas, no_index, index, Script, stop, set, if_, if_else, while_, for_, Signature, Passage, fixed, bodied, chained, spread, turned, each, after_comma, separated, num_symbol, spell_size, spell_port, spell_sub, spell_arg, spell_out, spell_call, spell, spell_index, spell_set, spell_script, spell_signature, spell_clause, spell_signed, spell_rescue_clause, spell_local, spell_end, spell_passage, tree, trees, script_tree}
 use Rattle.p3l_compile.specs.Limits.{items, index_items, code_items}
 
--- what an expression holds, and what follows it
+-- an expression has no more items than symbols
 mutual
   formula_long : (e : Formula) (r : List Symbol) → items (tree e) + length r ≤ length (spell e r)
   formula_long (numeral v p) r = omega arith
@@ -66,7 +66,7 @@ script_long (for_ x is e w y js f t c) r =
     let r4 = sign marks.Semicolon ∷ spell w r3 in
     omega (arith, set_long is e r4, formula_long w r3, set_long js f r2, script_long t r1, script_long c r)
 
--- what is written in front makes it no shorter
+-- symbols written in front make no list shorter
 abbrev Lengthens : (List Symbol → List Symbol) → Type 0
 Lengthens f = (r : List Symbol) → length r ≤ length (f r)
 
@@ -159,10 +159,10 @@ tokens_few bytes before (chunk ∷ chunks) cut =
     let all = length-append (token_at (position_after before) chunk.piece) (tokens_after (before ++ chunk.text) chunks) in
     omega (arith, more, some, one, whole, all)
 
-symbols_count : (tokens : List Token) → length (symbols tokens) ≡ length tokens
+symbols_count : (tokens : List TextToken) → length (symbols tokens) ≡ length tokens
 symbols_count [] = refl
 symbols_count (t ∷ ts) = omega (arith, symbols_count ts)
 
-pub symbols_few : (bytes : List ℕ) (tokens : List Token) → IsTokens bytes tokens → length (symbols tokens) ≤ length bytes
+pub symbols_few : (bytes : List ℕ) (tokens : List TextToken) → IsTokens bytes tokens → length (symbols tokens) ≤ length bytes
 symbols_few bytes tokens are =
-    omega (arith, symbols_count tokens, ap (length {A = Token}) are.tokens_are, tokens_few bytes [] are.chunks are.cut)
+    omega (arith, symbols_count tokens, ap (length {A = TextToken}) are.tokens_are, tokens_few bytes [] are.chunks are.cut)

@@ -22,7 +22,7 @@ use Rattle.p3l_lexer.specs.declared.token.Lexeme.{Lexeme}
 use Rattle.p3l_lexer.specs.declared.token.Lexeme.TheVariants as lexemes
 use Rattle.p3l_lexer.specs.declared.token.Piece.{Piece}
 use Rattle.p3l_lexer.specs.declared.token.Piece.TheVariants as pieces
-use Rattle.p3l_lexer.specs.declared.token.Token.{Token}
+use Rattle.p3l_lexer.specs.declared.token.TextToken.{TextToken}
 use Rattle.p3l_lexer.specs.Piece.{piece_of}
 use Rattle.p3l_lexer.specs.Position.{position_after}
 use Rattle.p3l_lexer.specs.Token.{Chunk, IsCutInto, token_at, tokens_after, IsTokens}
@@ -58,7 +58,7 @@ chunks_fit bytes before (chunk ∷ chunks) h = by chunk.piece h.2.is_piece (chun
     by pieces.Gap p k = k
     by (pieces.Token lexeme) p k = (symbol_fits chunk.text lexeme (position_after before) p, k)
 
-tokens_fit : (bytes : List ℕ) (tokens : List Token) → IsTokens bytes tokens → AllFit (symbols tokens)
+tokens_fit : (bytes : List ℕ) (tokens : List TextToken) → IsTokens bytes tokens → AllFit (symbols tokens)
 tokens_fit bytes tokens h = subst (λ t. AllFit (symbols t)) (sym h.tokens_are) (chunks_fit bytes [] h.chunks h.cut)
 
 -- the symbols behind those of a part

@@ -15,7 +15,7 @@ use Rattle.p3l_body_laws.specs.Checked.{BodyCompiles, checked_first, AreChecked,
 use Rattle.p3l_body_laws.proofs.Passages.{InsideKeeps, EntryKeeps, spelled_keeps}
 use Rattle.p3l_body_laws.proofs.Bodies.{compilable, checked_home}
 
--- what is kept of a value, where it is this one
+-- a property of a result's value holds of this one, if the result is this one
 kept_by : {A : Type 0} (r : Result A SourceRefusal) (x : A) (P : A → Type 0) → IfOk r P → r ≡ Ok x → P x
 kept_by (Ok y) x P h e = let same : y ≡ x = cc in subst P same h
 kept_by (Err f) x P h e = absurd cc
@@ -99,7 +99,7 @@ numbered constants home (defined m ∷ entries) seqs (info ∷ modules) (suc k) 
     (later_numbered (home + suc k) (checked_seq constants home m) (AreChecked constants (home + 1) entries) modules k m.kind seqs
     (λ rest h. subst (λ n. IsNumbered n (item_of modules rest k)) (omega arith) (numbered constants (home + 1) entries rest modules k others h)) are)
 
--- what is kept of all is kept at a place
+-- a limit kept by all entries is kept by the module at a place
 kept_at : (n : ℕ) (entries : List EntryTree) (place : ℕ) (m : ModuleTree) → AllByRecursion (EntryKeeps n) entries → slice_get entries place ≡ Some (defined m) → InsideKeeps n m.inside
 kept_at n [] place m keep there = absurd cc
 kept_at n (entry ∷ entries) zero m keep there = let same : entry ≡ defined m = cc in subst (EntryKeeps n) same keep.0

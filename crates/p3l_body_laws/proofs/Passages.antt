@@ -24,7 +24,7 @@ use Rattle.p3l_compile.specs.Limits.{KeepsLimits, code_items}
 use Rattle.p3l_body_laws.proofs.Nested.{nest, script_limited}
 use Rattle.p3l_body_laws.proofs.Lengths.{body_longer, passage_longer, symbols_few}
 
--- what is written in front leaves everything outside bodies
+-- symbols written in front leave everything outside bodies
 abbrev Rests : (List Symbol → List Symbol) → Type 0
 Rests f = (r : List Symbol) → IsWithin at_rest (f r) → IsWithin at_rest r
 

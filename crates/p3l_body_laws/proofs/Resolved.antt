@@ -1,4 +1,4 @@
--- What the entries of a program come to: their modules, what these take and give, and their bodies.
+-- Results of the entries of a program: their modules, the words that these take and give, and their bodies.
 use Rattle.std.proofs.Common.{◌≡◌, ℕ, ℤ, zero, suc, ◌+◌, Bool, cond, List, [], ◌∷◌, ◌++◌, length, map, get_or, Option, Some, None, Result, Ok, Err, refl, sym, ap, ◌∙◌, subst, arith, append_assoc, append-nil, length-append}
 use Rattle.std.specs.Prelude.{IsSomeAnd, slice_get}
 use Rattle.std.specs.List.{All, AllByRecursion}
@@ -20,8 +20,8 @@ use Rattle.p3l_skel.specs.declared.tree.Node.{Node}
 use Rattle.p3l_skel.specs.declared.tree.Tree.{Tree}
 use Rattle.p3l_skel.specs.Tree.{nesting}
 use Rattle.p3l_skel.specs.Lawful as lawful
-use Rattle.p3l_skel.specs.Lawful.{HasKind, IsLawfulNode, IsLawfulTree}
-use Rattle.p3l_check.specs.declared.wired.Wired.{Wired}
+use Rattle.p3l_skel.specs.Lawful.{HasKind, IsLawfulTree}
+use Rattle.p3l_check.specs.declared.callables.Callable.{Callable}
 use Rattle.p3l_check.specs.Wiring.{module_at}
 use Rattle.p3l_check.specs.Unfolding.{instances_of, instance, tree_of}
 use Rattle.p3l_check.proofs.Instances.{instance-step, instance-none}
@@ -90,35 +90,35 @@ same_kind kinds.Reduce = refl
 same_kind kinds.Loop = refl
 
 -- a body takes and gives the words of a module
-record HasWordsOf (w : Wired) (seq : SeqTree) : Type 0 where
+record HasWordsOf (w : Callable) (seq : SeqTree) : Type 0 where
   takes : total seq.ins ≡ w.ins
   gives : total seq.outs ≡ w.outs
 
 -- each `seq` module has a body with its words
-HaveBodies : List ModuleInfo → List Wired → List SeqTree → Type 0
-HaveBodies infos wired seqs =
-    (k : ℕ) → HasKind infos k module_kinds.Seq → IsSomeAnd (item_of infos seqs k) (HasWordsOf (module_at wired k))
+HaveBodies : List ModuleInfo → List Callable → List SeqTree → Type 0
+HaveBodies infos callables seqs =
+    (k : ℕ) → HasKind infos k module_kinds.Seq → IsSomeAnd (item_of infos seqs k) (HasWordsOf (module_at callables k))
 
--- what entries add to what there is
+-- the modules and bodies that entries add
 record Adds (checked last : Checked) (entries : List EntryTree) : Type 0 where
   infos : List ModuleInfo
-  wired : List Wired
+  callables : List Callable
   seqs : List SeqTree
   infos_are : last.modules.infos ≡ checked.modules.infos ++ infos
-  wired_are : last.modules.wired ≡ checked.modules.wired ++ wired
+  callables_are : last.modules.callables ≡ checked.modules.callables ++ callables
   seqs_are : last.seqs ≡ checked.seqs ++ seqs
   are : AreChecked checked.constants (length checked.modules.infos) entries seqs
   kinds_are : map (λ (info : ModuleInfo). info.kind) infos ≡ kinds_of entries
-  have : HaveBodies infos wired seqs
+  have : HaveBodies infos callables seqs
 
 -- a module of this kind in front
 record AddsOne (checked next : Checked) (m : ModuleTree) (entries : List EntryTree) (kind : Kind) : Type 0 where
   rescue : Option ℤ
-  w : Wired
+  w : Callable
   seqs : List SeqTree
   constants_are : next.constants ≡ checked.constants
   infos_are : next.modules.infos ≡ checked.modules.infos ++ info_of m rescue ∷ []
-  wired_are : next.modules.wired ≡ checked.modules.wired ++ w ∷ []
+  callables_are : next.modules.callables ≡ checked.modules.callables ++ w ∷ []
   seqs_are : next.seqs ≡ checked.seqs ++ seqs
   are : (rest : List SeqTree) → AreChecked checked.constants (length checked.modules.infos + 1) entries rest →
       checked_first kind (checked_seq checked.constants (length checked.modules.infos) m) (AreChecked checked.constants (length checked.modules.infos + 1) entries) (seqs ++ rest)
@@ -136,11 +136,11 @@ module _ (checked next : Checked) (m : ModuleTree) (entries : List EntryTree) (p
   unfolding after
   bodiless kind are count other is = record {
     rescue = rescue;
-    w = (defined_as (info_of m rescue) p skeleton).wired;
+    w = (defined_as (info_of m rescue) p skeleton).callables;
     seqs = [];
     constants_are = ap (λ (c : Checked). c.constants) is;
     infos_are = ap (λ (c : Checked). c.modules.infos) is;
-    wired_are = ap (λ (c : Checked). c.modules.wired) is;
+    callables_are = ap (λ (c : Checked). c.modules.callables) is;
     seqs_are = ap (λ (c : Checked). c.seqs) is ∙ sym (append-nil checked.seqs);
     are = are;
     count = count;
@@ -152,11 +152,11 @@ module _ (checked next : Checked) (m : ModuleTree) (entries : List EntryTree) (p
   bodied seq e is =
       let own = seq_ports checked.constants (length checked.modules.infos) m p seq are_ports e in record {
         rescue = rescue;
-        w = (defined_as (info_of m rescue) p skeleton).wired;
+        w = (defined_as (info_of m rescue) p skeleton).callables;
         seqs = seq ∷ [];
         constants_are = ap (λ (c : Checked). c.constants) is;
         infos_are = ap (λ (c : Checked). c.modules.infos) is;
-        wired_are = ap (λ (c : Checked). c.modules.wired) is;
+        callables_are = ap (λ (c : Checked). c.modules.callables) is;
         seqs_are = ap (λ (c : Checked). c.seqs) is;
         are = λ rest h. (e, h);
         count = refl;
@@ -190,30 +190,30 @@ module_adds checked next is_ahead m entries e =
     let d : defined_as (info_of m k.value) h.value i.value ≡ g.value = ok_same _ g.value i.then_is in
     one_more checked next m entries h.value k.value i.value there.then_is m.kind j.value j.is (sym (ok_same _ next j.then_is) ∙ ap (λ (x : Defined). with_checked checked x j.value) (sym d))
 
--- what lies after others
+-- an element n of the back lies n places after the front
 get_after : (front back : List SeqTree) (n k : ℕ) → k ≡ length front + n → slice_get (front ++ back) k ≡ slice_get back n
 get_after [] back n k e = let f : k ≡ n = omega (arith, e) in ap (slice_get back) f
 get_after (x ∷ front) back n zero e = absurd (omega (arith, e))
 get_after (x ∷ front) back n (suc k) e = get_after front back n k (omega (arith, e))
 
-have_more : (checked next : Checked) (m : ModuleTree) (entries : List EntryTree) (one : AddsOne checked next m entries m.kind) (infos : List ModuleInfo) (wired : List Wired) (seqs : List SeqTree) →
-    HaveBodies infos wired seqs → HaveBodies (info_of m one.rescue ∷ infos) (one.w ∷ wired) (one.seqs ++ seqs)
+have_more : (checked next : Checked) (m : ModuleTree) (entries : List EntryTree) (one : AddsOne checked next m entries m.kind) (infos : List ModuleInfo) (callables : List Callable) (seqs : List SeqTree) →
+    HaveBodies infos callables seqs → HaveBodies (info_of m one.rescue ∷ infos) (one.w ∷ callables) (one.seqs ++ seqs)
 unfolding HaveBodies
-have_more checked next m entries one infos wired seqs have zero seq =
+have_more checked next m entries one infos callables seqs have zero seq =
     subst (λ t. IsSomeAnd (cond (is_seq_kind t) (slice_get (one.seqs ++ seqs) 0) None) (HasWordsOf one.w)) (sym seq) (one.first seqs seq)
-have_more checked next m entries one infos wired seqs have (suc k) seq =
+have_more checked next m entries one infos callables seqs have (suc k) seq =
     let at = get_after one.seqs seqs (seqs_before infos k) (one_if_seq (kind_in m.kind) + seqs_before infos k) (omega (arith, one.count)) in
-    subst (λ o. IsSomeAnd (if_seq (slice_get infos k) o) (HasWordsOf (module_at wired k))) (sym at) (have k seq)
+    subst (λ o. IsSomeAnd (if_seq (slice_get infos k) o) (HasWordsOf (module_at callables k))) (sym at) (have k seq)
 
 adds : (checked last : Checked) (entries : List EntryTree) → checked_entries checked entries ≡ Ok last → Adds checked last entries
 unfolding HaveBodies
 adds checked last [] e =
     let same = sym (ok_same checked last e) in record {
       infos = [];
-      wired = [];
+      callables = [];
       seqs = [];
       infos_are = ap (λ (c : Checked). c.modules.infos) same ∙ sym (append-nil checked.modules.infos);
-      wired_are = ap (λ (c : Checked). c.modules.wired) same ∙ sym (append-nil checked.modules.wired);
+      callables_are = ap (λ (c : Checked). c.modules.callables) same ∙ sym (append-nil checked.modules.callables);
       seqs_are = ap (λ (c : Checked). c.seqs) same ∙ sym (append-nil checked.seqs);
       are = tt;
       kinds_are = refl;
@@ -226,10 +226,10 @@ adds checked last (constant at value ∷ entries) e =
     let same : g.value ≡ next = sym (ok_same next g.value h.then_is) in
     let r = adds next last entries (subst (λ c. checked_entries c entries ≡ Ok last) same g.then_is) in record {
       infos = r.infos;
-      wired = r.wired;
+      callables = r.callables;
       seqs = r.seqs;
       infos_are = r.infos_are;
-      wired_are = r.wired_are;
+      callables_are = r.callables_are;
       seqs_are = r.seqs_are;
       are = r.are;
       kinds_are = r.kinds_are;
@@ -247,51 +247,51 @@ adds checked last (defined m ∷ entries) e =
     subst (λ n. AreChecked checked.constants n entries r.seqs) next_home
     (subst (λ c. AreChecked c (length g.value.modules.infos) entries r.seqs) one.constants_are r.are) in record {
       infos = info_of m one.rescue ∷ r.infos;
-      wired = one.w ∷ r.wired;
+      callables = one.w ∷ r.callables;
       seqs = one.seqs ++ r.seqs;
       infos_are = r.infos_are ∙ ap (λ l. l ++ r.infos) one.infos_are ∙ append_assoc checked.modules.infos (info_of m one.rescue ∷ []) r.infos;
-      wired_are = r.wired_are ∙ ap (λ l. l ++ r.wired) one.wired_are ∙ append_assoc checked.modules.wired (one.w ∷ []) r.wired;
+      callables_are = r.callables_are ∙ ap (λ l. l ++ r.callables) one.callables_are ∙ append_assoc checked.modules.callables (one.w ∷ []) r.callables;
       seqs_are = r.seqs_are ∙ ap (λ l. l ++ r.seqs) one.seqs_are ∙ append_assoc checked.seqs one.seqs r.seqs;
       are = one.are r.seqs are;
       kinds_are = ap (λ k. k ∷ map (λ (info : ModuleInfo). info.kind) r.infos) (same_kind m.kind) ∙ ap (λ l. kind_of m.kind ∷ l) r.kinds_are;
-      have = have_more checked g.value m entries one r.infos r.wired r.seqs r.have;
+      have = have_more checked g.value m entries one r.infos r.callables r.seqs r.have;
     }
 
 -- each node takes and gives the words of its module
-record IsOfModule (wired : List Wired) (node : Node) : Type 0 where
-  takes : node.ins ≡ (module_at wired node.module).ins
-  gives : node.outs ≡ (module_at wired node.module).outs
+record IsOfModule (callables : List Callable) (node : Node) : Type 0 where
+  takes : node.ins ≡ (module_at callables node.module).ins
+  gives : node.outs ≡ (module_at callables node.module).outs
 
-module _ (wired : List Wired) where
-  all_append : (front back : List Node) → AllByRecursion (IsOfModule wired) front → AllByRecursion (IsOfModule wired) back → AllByRecursion (IsOfModule wired) (front ++ back)
+module _ (callables : List Callable) where
+  all_append : (front back : List Node) → AllByRecursion (IsOfModule callables) front → AllByRecursion (IsOfModule callables) back → AllByRecursion (IsOfModule callables) (front ++ back)
   all_append [] back f b = b
   all_append (n ∷ front) back f b = (f.0, all_append front back f.1 b)
 
-  calls_are : (below : ℕ → ℕ → List Node) → ((k at : ℕ) → AllByRecursion (IsOfModule wired) (below k at)) → (ks : List ℕ) (at : ℕ) → AllByRecursion (IsOfModule wired) (instances_of below ks at)
+  calls_are : (below : ℕ → ℕ → List Node) → ((k at : ℕ) → AllByRecursion (IsOfModule callables) (below k at)) → (ks : List ℕ) (at : ℕ) → AllByRecursion (IsOfModule callables) (instances_of below ks at)
   calls_are below all [] at = tt
   calls_are below all (k ∷ ks) at = all_append (below k at) _ (all k at) (calls_are below all ks (at + length (below k at)))
 
-  nodes_are : (d k at : ℕ) → AllByRecursion (IsOfModule wired) (instance wired d k at)
-  nodes_are zero k at = subst (AllByRecursion (IsOfModule wired)) (sym (instance-none wired k at)) tt
+  nodes_are : (d k at : ℕ) → AllByRecursion (IsOfModule callables) (instance callables d k at)
+  nodes_are zero k at = subst (AllByRecursion (IsOfModule callables)) (sym (instance-none callables k at)) tt
   nodes_are (suc d) k at =
-      subst (AllByRecursion (IsOfModule wired)) (sym (instance-step wired d k at))
-      (record { takes = refl; gives = refl }, calls_are (instance wired d) (nodes_are d) (module_at wired k).calls (at + 1))
+      subst (AllByRecursion (IsOfModule callables)) (sym (instance-step callables d k at))
+      (record { takes = refl; gives = refl }, calls_are (instance callables d) (nodes_are d) (module_at callables k).calls (at + 1))
 
 some_then : {A : Type 0} (o : Option A) (P Q : A → Type 0) → ((x : A) → P x → Q x) → IsSomeAnd o P → IsSomeAnd o Q
 some_then None P Q go h = h
 some_then (Some x) P Q go h = go x h
 
-module _ (infos : List ModuleInfo) (wired : List Wired) (seqs : List SeqTree) (root : ℕ) (have : HaveBodies infos wired seqs) (good : IsLawfulTree (tree_of infos wired root)) where
+module _ (infos : List ModuleInfo) (callables : List Callable) (seqs : List SeqTree) (root : ℕ) (have : HaveBodies infos callables seqs) (good : IsLawfulTree (tree_of infos callables root)) where
   tree : Tree
-  tree = tree_of infos wired root
+  tree = tree_of infos callables root
 
-  words : All (λ (node : Node). node.form ≡ forms.Seq → IsSomeAnd (body_of tree seqs node.module) (FitsNode node)) (tree_of infos wired root).nodes
+  words : All (λ (node : Node). node.form ≡ forms.Seq → IsSomeAnd (body_of tree seqs node.module) (FitsNode node)) (tree_of infos callables root).nodes
   unfolding HaveBodies tree
   words i d inside form =
-      let node = get_or (instance wired nesting root 0) i d in
-      let own : IsOfModule wired node = All-from_recursion (IsOfModule wired) (instance wired nesting root 0) (nodes_are wired nesting root 0) i d inside in
+      let node = get_or (instance callables nesting root 0) i d in
+      let own : IsOfModule callables node = All-from_recursion (IsOfModule callables) (instance callables nesting root 0) (nodes_are callables nesting root 0) i d inside in
       let kind : HasKind infos node.module module_kinds.Seq = subst (λ f. HasKind infos node.module (lawful.kind_of f)) form (good.nodes i d inside).kind in
-      some_then (item_of infos seqs node.module) (HasWordsOf (module_at wired node.module)) (FitsNode node)
+      some_then (item_of infos seqs node.module) (HasWordsOf (module_at callables node.module)) (FitsNode node)
       (λ seq h. record { takes = h.takes ∙ sym own.takes; gives = h.gives ∙ sym own.gives }) (have node.module kind)
 
 pub resolved_serve : served.ResolvedServe
@@ -301,15 +301,15 @@ resolved_serve bytes program r source e good =
     let h = given_of (root_of program.end g.value.modules) _ r g.then_is in
     let i = given_of (limits_rule (main_place program.end program.entries) g.value.modules h.value) _ r h.then_is in
     let a = adds none_checked g.value program.entries g.is in
-    let t = tree_of a.infos a.wired h.value in
+    let t = tree_of a.infos a.callables h.value in
     let same : r ≡ record { tree = t; seqs = a.seqs } =
     sym (ok_same _ r i.then_is)
-    ∙ ap (λ l. record { tree = tree_of l g.value.modules.wired h.value; seqs = g.value.seqs }) a.infos_are
-    ∙ ap (λ l. record { tree = tree_of a.infos l h.value; seqs = g.value.seqs }) a.wired_are
+    ∙ ap (λ l. record { tree = tree_of l g.value.modules.callables h.value; seqs = g.value.seqs }) a.infos_are
+    ∙ ap (λ l. record { tree = tree_of a.infos l h.value; seqs = g.value.seqs }) a.callables_are
     ∙ ap (λ l. record { tree = t; seqs = l }) a.seqs_are in
     let fair : IsLawfulTree t = subst (λ (x : ResolvedTree). IsLawfulTree x.tree) same good in
     subst (λ (x : ResolvedTree). AreBodies x.tree x.seqs) (sym same)
     (bodies_serve bytes program a.seqs t source a.are (record {
       same_kinds = a.kinds_are;
-      words = words a.infos a.wired a.seqs h.value a.have fair;
+      words = words a.infos a.callables a.seqs h.value a.have fair;
     }))

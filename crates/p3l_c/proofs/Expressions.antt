@@ -16,7 +16,7 @@ use Rattle.p3l_ast.specs.declared.expression.BinOp.TheVariants.{Or, And, BitOr, 
 use Rattle.p3l_ast.specs.declared.meaning.valuation.Valuation.{Valuation}
 use Rattle.p3l_ast.specs.Tree as tree
 use Rattle.p3l_ast.specs.Tree.{Phrase, read, unary, binary, Phrases, none, more}
-use Rattle.p3l_ast.specs.Meaning.Operator.{holds, least, shifted, divided, unary_of, binary_of}
+use Rattle.p3l_ast.specs.Meaning.Operator.{holds, least, shifted, divided, unary_of}
 use Rattle.p3l_ast.specs.Meaning.Operator as meaning
 use Rattle.p3l_ast.specs.Meaning.Valuation.{sizes_of, word_of}
 use Rattle.p3l_ast.specs.Meaning.Expression.{given, tested, combined, indexed, value_of, place_of}

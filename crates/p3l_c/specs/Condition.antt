@@ -16,7 +16,7 @@ use Rattle.p3l_c.specs.Syntax as c
 use Rattle.p3l_c.specs.Machine.{Store, Ending, goes, returns, undefined, unfinished, object_of, runs_by, loops_by}
 use Rattle.p3l_c.specs.Translate.{Shapes, declared, lines}
 
--- how many indices there are
+-- the number of indices
 abbrev pub count_of : Phrases → ℕ
 count_of none = 0
 count_of (more e is) = count_of is + 1
@@ -100,7 +100,7 @@ pub record IsWritable (seq : SeqTree) : Type 0 where
   pub constants : ConstantsFit seq.constants
   pub budget : seq.budget < 2 ^ 63
 
--- how many words variables have
+-- the number of words of variables
 abbrev pub total : List Var → ℕ
 total [] = 0
 total (var ∷ vars) = width var + total vars
@@ -109,7 +109,7 @@ total (var ∷ vars) = width var + total vars
 abbrev pub stored : Valuation → (ℕ → Option ℤ) → Store
 stored s temps = record { objects = s.bindings; temps = temps; turns = s.turns }
 
--- how a call of the function ends
+-- the ending of a call of the function
 pub data Called : Type 0 where
   gives : Outcome → Called
   is_undefined : Called

@@ -106,7 +106,7 @@ unfoldable mutual
   test st (both a b) = and_also (test st a) (test st b)
   test st (spent n) = Some (nat_le n st.turns)
 
--- how statements end
+-- the ending of statements
 pub data Ending : Type 0 where
   goes : Store → Ending
   returns : TrapKind → Ending

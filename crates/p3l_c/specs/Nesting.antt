@@ -1,4 +1,4 @@
--- How deep the expressions of a function nest.
+-- The depth to which the expressions of a function nest.
 use Rattle.std.specs.Prelude.{ℕ, suc, ◌≤◌, max}
 use Rattle.p3l_ast.specs.Tree.{Statements}
 use Rattle.p3l_c.specs.Syntax.{Signed, number, temp, element, quotient, remainder, truth, converted, moved_down, Unsigned, nought, of, plus, minus, times, bits_and, bits_or, bits_xor, flipped, moved_up, Test, equal, differ, less, at_most, greater, at_least, negated, either, both, spent, Lines, done, keep, write, stop_if, turn, choose, forever}

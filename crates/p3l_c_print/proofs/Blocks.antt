@@ -1,5 +1,5 @@
 -- Choices and loops, by which of their parts are empty.
-use Rattle.std.proofs.Common.{◌≡◌, ◌≢◌, ℕ, List, [], ◌∷◌, ◌++◌, length, refl, ap, arith}
+use Rattle.std.proofs.Common.{◌≡◌, ◌≢◌, ℕ, List, [], ◌∷◌, ◌++◌, length, refl, arith}
 use Rattle.std.specs.Prelude.{codes}
 use Rattle.p3l_c_print.specs.Line.{choice_lines, loop_lines}
 

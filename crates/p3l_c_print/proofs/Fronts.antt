@@ -1,5 +1,5 @@
 -- The lines before the use of expressions, by what these are made of.
-use Rattle.std.proofs.Common.{◌≡◌, ℕ, ℤ, pos, ◌+◌, Bool, true, false, List, [], ◌++◌, ap, ◌∙◌, sym, refl, append_assoc, append-nil}
+use Rattle.std.proofs.Common.{◌≡◌, ℕ, ℤ, ◌+◌, Bool, true, false, List, [], ◌++◌, ap, ◌∙◌, sym, refl, append_assoc, append-nil}
 use Rattle.std.specs.Prelude.{nat_le, codes, if◌then◌else◌}
 use Rattle.p3l_ast.specs.declared.expression.UnOp.{UnOp}
 use Rattle.p3l_ast.specs.declared.expression.BinOp.{BinOp}
@@ -8,13 +8,13 @@ use Rattle.p3l_ast.specs.Tree as tree
 use Rattle.p3l_ast.specs.Tree.{Phrase, Phrases, read, unary, binary, none, more}
 use Rattle.p3l_c.specs.Syntax.{Signed, temp, truth, Lines, done, keep, choose}
 use Rattle.p3l_c.specs.Translate as c
-use Rattle.p3l_c.specs.Translate.{Shapes, sizes_at, next, height, value, lowered, is_deep, is_steady, kept_value, kept_next, kept_lines, after_operand, first_temp, around, guards, before, before_all, first_size, other_sizes, index_guard}
+use Rattle.p3l_c.specs.Translate.{sizes_at, next, height, value, lowered, is_deep, is_steady, kept_value, kept_lines, after_operand, first_temp, around, guards, before, first_size, other_sizes}
 use Rattle.p3l_c_print.specs.declared.value.Value.{Value}
 use Rattle.p3l_c_print.specs.Name.{Names, shapes_of}
-use Rattle.p3l_c_print.specs.Line.{set_line, stop_line, deeper, choice_lines}
-use Rattle.p3l_c_print.specs.Text.{signed_text, unsigned_text, test_text, temp_text, lines_text}
-use Rattle.p3l_c_print.specs.Value.{told, value_of, front_text, index_text, signed_of, test_of, kept_line, operand_of, operand_text, combined_lines, guards_text, bound_line, own_temp, truth_line, undecided_lines, truth_text}
-use Rattle.p3l_c_print.proofs.Follow.{Fronts, front_text_then, before_front, before_all_front}
+use Rattle.p3l_c_print.specs.Line.{set_line, deeper, choice_lines}
+use Rattle.p3l_c_print.specs.Text.{signed_text, test_text, temp_text, lines_text}
+use Rattle.p3l_c_print.specs.Value.{told, value_of, front_text, index_text, signed_of, test_of, kept_line, operand_of, operand_text, combined_lines, bound_line, own_temp, truth_line, undecided_lines, truth_text}
+use Rattle.p3l_c_print.proofs.Follow.{front_text_then, before_front}
 use Rattle.p3l_c_print.proofs.Values.{signed_told, test_told, operand_told, operand_after}
 
 pub front_number : (names : Names) (margin : List ℕ) (n : ℕ) (z : ℤ) → front_text names margin n (tree.number z) ≡ []

@@ -1,6 +1,6 @@
 -- The heights of expressions before whose use no lines stand, by what these are made of.
 use Rattle.std.proofs.Common.{◌≡◌, ◌≢◌, ℕ, ℤ, ◌+◌, Bool, true, false, List, [], ◌∷◌, Some, None, length, refl, ap, sym, ◌∙◌, max, arith}
-use Rattle.std.specs.Prelude.{Option, nat_le, if◌then◌else◌, ◌&&◌, not, is_some}
+use Rattle.std.specs.Prelude.{nat_le, if◌then◌else◌, ◌&&◌, not, is_some}
 use Rattle.std.specs.declared.boxed.Box.{Box}
 use Rattle.std.specs.declared.alloc.Global.{Global}
 use Rattle.p3l_ast.specs.declared.expression.UnOp.{UnOp}
@@ -9,10 +9,9 @@ use Rattle.p3l_ast.specs.declared.expression.BinOp.TheVariants.{Or, And, BitOr, 
 use Rattle.p3l_ast.specs.declared.expression.Expr.{Expr}
 use Rattle.p3l_ast.specs.declared.expression.Expr.TheVariants.{Number, Read, Unary, Binary}
 use Rattle.p3l_ast.specs.declared.expression.Target.{Target}
-use Rattle.p3l_ast.specs.Tree.{Phrase, phrase, phrases, read, unary, binary, none, more}
+use Rattle.p3l_ast.specs.Tree.{Phrase, phrase, phrases, read, binary}
 use Rattle.p3l_ast.proofs.Trees.{phrase_number, phrase_unary, phrase_binary, phrase_read}
-use Rattle.p3l_c.specs.Translate.{height, is_plain, is_steady, is_deep, is_total, lowered, operator_height}
-use Rattle.p3l_c_print.specs.declared.operator.Class.{Class}
+use Rattle.p3l_c.specs.Translate.{height, is_plain, is_steady, lowered}
 use Rattle.p3l_c_print.specs.declared.operator.Class.TheVariants.{Guarded}
 use Rattle.p3l_c_print.specs.Value.{class_of}
 use Rattle.p3l_c_print.specs.Plain.{plain_height, steady_height, shallow, over_both}

@@ -9,10 +9,10 @@ use Rattle.std.proofs.lemmas.Slice.Eq.{bytes_eq-Decides}
 use Rattle.p3l_body.specs.declared.var.Var.{Var}
 use Rattle.p3l_c_print.specs.declared.names.Kind.{Kind}
 use Rattle.p3l_c_print.specs.declared.names.Kind.TheVariants.{In, Out, Local}
-use Rattle.p3l_c_print.specs.declared.names.Place.{Place}
+use Rattle.p3l_c_print.specs.declared.names.VariablePlace.{VariablePlace}
 use Rattle.p3l_body.specs.Seq.{SeqTree}
 use Rattle.p3l_c_print.specs.Name.{Names, kind_text, kept_name, place_text, found_text, name_text, entered, all_entered, names_of}
-use Rattle.p3l_c_print.specs.Laws.{vars_of, object_text, IsCountable, IsVariable, IsDistinct}
+use Rattle.p3l_c_print.specs.Laws.{vars_of, IsCountable, IsVariable, IsDistinct}
 use Rattle.p3l_c_print.proofs.Kept.{kept_le}
 
 -- texts whose first bytes differ
@@ -61,12 +61,12 @@ name_within (v ∷ vs) zero name e = omega arith
 name_within (v ∷ vs) (suc n) name e = let below = name_within vs n name e in omega arith
 
 -- a look-up where one variable was added
-found_more : (name last : List ℕ) (its place : Place) (places : List (List ℕ × Place)) → lookup (bytes_eq name) (places ++ (last, its) ∷ []) ≡ Some place
+found_more : (name last : List ℕ) (its place : VariablePlace) (places : List (List ℕ × VariablePlace)) → lookup (bytes_eq name) (places ++ (last, its) ∷ []) ≡ Some place
     → (lookup (bytes_eq name) places ≡ Some place) ⊎ ((name ≡ last) × (its ≡ place))
 found_more name last its place [] e = by (bytes_eq name last) refl e
   where
     by : (t : Bool) → bytes_eq name last ≡ t → cond t (Some its) None ≡ Some place → (None ≡ Some place) ⊎ ((name ≡ last) × (its ≡ place))
-    by true is e = inr ((bytes_eq-Decides name last).0 is, ap (λ (o : Option Place). elim o as (λ _. Place) [ Some p ↦ p | None ↦ its ]) e)
+    by true is e = inr ((bytes_eq-Decides name last).0 is, ap (λ (o : Option VariablePlace). elim o as (λ _. VariablePlace) [ Some p ↦ p | None ↦ its ]) e)
     by false is e = inl e
 found_more name last its place (p ∷ places) e = by (bytes_eq name p.0) (found_more name last its place places) e
   where
@@ -77,27 +77,27 @@ found_more name last its place (p ∷ places) e = by (bytes_eq name p.0) (found_
     by false go e = go e
 
 -- the number of each variable is its place among those of its kind
-abbrev AreNumbered : (Kind → List Var) → List (List ℕ × Place) → Type 0
-AreNumbered vars places = (name : List ℕ) (place : Place) → lookup (bytes_eq name) places ≡ Some place → name_at (vars place.kind) place.number ≡ Some name
+abbrev AreNumbered : (Kind → List Var) → List (List ℕ × VariablePlace) → Type 0
+AreNumbered vars places = (name : List ℕ) (place : VariablePlace) → lookup (bytes_eq name) places ≡ Some place → name_at (vars place.kind) place.number ≡ Some name
 
-one_numbered : (vars : Kind → List Var) (kind : Kind) (n : ℕ) (var : Var) (places : List (List ℕ × Place))
+one_numbered : (vars : Kind → List Var) (kind : Kind) (n : ℕ) (var : Var) (places : List (List ℕ × VariablePlace))
     → name_at (vars kind) n ≡ Some var.name → AreNumbered vars places → AreNumbered vars (entered kind n var places)
 one_numbered vars kind n var places here go = by (is_some (lookup (bytes_eq var.name) places))
   where
-    its : Place
+    its : VariablePlace
     its = record { kind = kind; number = n; sizes = var.shape.sizes }
 
     by : (t : Bool) → AreNumbered vars (cond t places (places ++ (var.name, its) ∷ []))
     by true = go
     by false = λ name place e. ⊎_elim (go name place)
-        (λ new. subst (λ (p : Place). name_at (vars p.kind) p.number ≡ Some name) new.1 (here ∙ ap Some (sym new.0)))
+        (λ new. subst (λ (p : VariablePlace). name_at (vars p.kind) p.number ≡ Some name) new.1 (here ∙ ap Some (sym new.0)))
         (found_more name var.name its place places e)
 
 -- the variables from a number on
 abbrev Follow : List Var → ℕ → List Var → Type 0
 Follow rest n whole = (k : ℕ) (name : List ℕ) → name_at rest k ≡ Some name → name_at whole (n + k) ≡ Some name
 
-all_numbered : (vars : Kind → List Var) (kind : Kind) (n : ℕ) (rest : List Var) (places : List (List ℕ × Place))
+all_numbered : (vars : Kind → List Var) (kind : Kind) (n : ℕ) (rest : List Var) (places : List (List ℕ × VariablePlace))
     → Follow rest n (vars kind) → AreNumbered vars places → AreNumbered vars (all_entered kind n rest places)
 unfolding all_entered
 all_numbered vars kind n [] places follow go = go
@@ -122,7 +122,7 @@ kind_short In = omega arith
 kind_short Out = omega arith
 kind_short Local = omega arith
 
-place_short : (name : List ℕ) (place : Place) → place.number < 2 ^ 64 → length (place_text name place) ≤ 63
+place_short : (name : List ℕ) (place : VariablePlace) → place.number < 2 ^ 64 → length (place_text name place) ≤ 63
 place_short name place small =
     let digits = length-decimal-le 20 place.number (omega arith) (omega arith) small in
     let kept = kept_le name in
@@ -132,11 +132,11 @@ place_short name place small =
     omega arith
 
 -- a variable is written as its identifier
-object_is : (names : Names) (name : List ℕ) (place : Place) → lookup (bytes_eq name) names.places ≡ Some place → name_text names name ≡ place_text name place
+object_is : (names : Names) (name : List ℕ) (place : VariablePlace) → lookup (bytes_eq name) names.places ≡ Some place → name_text names name ≡ place_text name place
 unfolding name_text
 object_is names name place is = ap (found_text names name) is
 
-found_is : (o : Option Place) → IsSome o → (place : Place) × (o ≡ Some place)
+found_is : (o : Option VariablePlace) → IsSome o → (place : VariablePlace) × (o ≡ Some place)
 found_is (Some place) h = (place, refl)
 found_is None h = absurd (true≢false (sym h))
 
@@ -145,7 +145,7 @@ given_name (Some name) = name
 given_name None = []
 
 -- two variables with one number of one kind are one
-one_variable : (seq : SeqTree) (name other : List ℕ) (place its : Place)
+one_variable : (seq : SeqTree) (name other : List ℕ) (place its : VariablePlace)
     → name_at (vars_of seq place.kind) place.number ≡ Some name → name_at (vars_of seq its.kind) its.number ≡ Some other
     → place.kind ≡ its.kind → place.number ≡ its.number → name ≡ other
 unfolding given_name
@@ -153,7 +153,7 @@ one_variable seq name other place its here there kinds numbers =
     ap given_name (sym here ∙ ap (λ k. name_at (vars_of seq k) place.number) kinds ∙ ap (name_at (vars_of seq its.kind)) numbers ∙ there)
 
 -- a number of a variable is one of 64 bits
-number_small : (seq : SeqTree) (name : List ℕ) (place : Place) → IsCountable seq → lookup (bytes_eq name) (names_of seq).places ≡ Some place → place.number < 2 ^ 64
+number_small : (seq : SeqTree) (name : List ℕ) (place : VariablePlace) → IsCountable seq → lookup (bytes_eq name) (names_of seq).places ≡ Some place → place.number < 2 ^ 64
 number_small seq name place few at =
     let below = name_within (vars_of seq place.kind) place.number name (variables_numbered seq name place at) in
     let bound = few place.kind in

@@ -3,7 +3,7 @@ use Rattle.std.proofs.Common.{◌≡◌, ℕ, ◌+◌, ◌<◌, ◌≤◌, List,
 use Rattle.std.proofs.lemmas.List.{drop_more, drop_all}
 use Rattle.p3l_ast.specs.declared.expression.Expr.{Expr}
 use Rattle.p3l_ast.specs.Tree.{Phrase, Phrases, none, more, phrase, phrases}
-use Rattle.p3l_c.specs.Translate.{first_size, other_sizes, next, next_all, spots}
+use Rattle.p3l_c.specs.Translate.{first_size, other_sizes, next_all, spots}
 use Rattle.p3l_c_print.specs.declared.value.Value.{Value}
 use Rattle.p3l_c_print.specs.declared.value.Spots.{Spots}
 use Rattle.p3l_c_print.specs.Name.{Names}

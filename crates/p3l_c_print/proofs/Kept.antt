@@ -1,5 +1,5 @@
 -- The first characters of a name.
-use Rattle.std.proofs.Common.{◌≡◌, ℕ, zero, suc, ◌+◌, ◌<◌, ◌≤◌, ◌⊎◌, min, List, length, take, Bool, true, false, cond, IsCharBoundary, refl, sym, ap, subst, ◌∙◌, ⊎_elim, arith, take_all, length-take, lt-ltb, le-ltb, le-leb}
+use Rattle.std.proofs.Common.{◌≡◌, ℕ, zero, suc, ◌+◌, ◌<◌, ◌≤◌, ◌⊎◌, List, length, take, Bool, true, false, cond, IsCharBoundary, refl, sym, ap, subst, ◌∙◌, ⊎_elim, arith, take_all, length-take, lt-ltb, le-ltb, le-leb}
 use Rattle.std.specs.Prelude.{slice_index}
 use Rattle.std.specs.Fmt.{is_char_start}
 use Rattle.std.specs.Fmt.Cut.{floor_char_boundary}

@@ -15,10 +15,10 @@ use Rattle.p3l_c.specs.Syntax.{Lines, done, write, choose, forever}
 use Rattle.p3l_c.specs.Translate as c
 use Rattle.p3l_c.specs.Translate.{Shapes, sizes_at, next, next_all, spots, height, value, before, before_all, assign_lines, turn_lines, lines}
 use Rattle.p3l_c_print.specs.Name.{Names, shapes_of}
-use Rattle.p3l_c_print.specs.Line.{set_line, stop_line, turn_line, spent_text, begin_lines, deeper, choice_lines, loop_lines}
-use Rattle.p3l_c_print.specs.Text.{signed_text, test_text, element_text, lines_text}
+use Rattle.p3l_c_print.specs.Line.{set_line, stop_line, turn_line, spent_text, deeper, choice_lines, loop_lines}
+use Rattle.p3l_c_print.specs.Text.{test_text, element_text, lines_text}
 use Rattle.p3l_c.specs.Temps.{assign_temps, temps_of}
-use Rattle.p3l_c_print.specs.Value.{value_of, front_text, index_text, assign_text, round_text, code_text, signed_of, test_of}
+use Rattle.p3l_c_print.specs.Value.{value_of, front_text, assign_text, round_text, code_text, signed_of, test_of}
 use Rattle.p3l_c_print.proofs.Follow.{front_text_then, before_front, before_all_front, assign_front, lines_front}
 use Rattle.p3l_c_print.proofs.Values.{signed_told, test_told}
 

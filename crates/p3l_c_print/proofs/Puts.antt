@@ -9,9 +9,9 @@ use Rattle.p3l_c.specs.Translate.{next_all, spots, sizes_at}
 use Rattle.p3l_c.specs.Condition.{take_entries, zero_entry, vars_shapes, function_of}
 use Rattle.p3l_c_print.specs.declared.value.Value.{Value}
 use Rattle.p3l_c_print.specs.declared.value.Block.{Block}
-use Rattle.p3l_c_print.specs.Name.{Names, name_text, names_of, shapes_of}
+use Rattle.p3l_c_print.specs.Name.{Names, names_of, shapes_of}
 use Rattle.p3l_c_print.specs.Line.{set_line, deeper, choice_lines, loop_lines}
-use Rattle.p3l_c_print.specs.Text.{element_text, spots_text}
+use Rattle.p3l_c_print.specs.Text.{element_text}
 use Rattle.p3l_c_print.specs.Value.{value_of, block_of, front_text, index_text, assign_text, round_text, code_text, signed_of, test_of}
 use Rattle.p3l_c_print.specs.Function.{entries_text, temps_text, outs_text, opening_text, turns_text, body_text}
 use Rattle.p3l_c_print.proofs.Joined.{then}

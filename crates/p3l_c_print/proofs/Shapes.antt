@@ -4,16 +4,16 @@ use Rattle.std.specs.Prelude.{bytes_eq, map, Option, is_some}
 use Rattle.std.specs.Map.{lookup}
 use Rattle.std.proofs.lemmas.Slice.Eq.{bytes_eq-Decides}
 use Rattle.p3l_ast.specs.declared.expression.BinOp.{BinOp}
-use Rattle.p3l_ast.specs.declared.expression.BinOp.TheVariants.{Or, And, BitOr, BitXor, BitAnd, Eq, Ne, Lt, Le, Gt, Ge, Shl, Shr, Add, Sub, Mul, Div, Rem}
+use Rattle.p3l_ast.specs.declared.expression.BinOp.TheVariants.{Or, And}
 use Rattle.p3l_ast.specs.Tree as tree
 use Rattle.p3l_ast.specs.Tree.{Phrase, read, unary, binary, Phrases, none, more, Statements, assign, if_, if_else, while_, for_}
 use Rattle.p3l_types.specs.Constants.{Constants}
 use Rattle.p3l_body.specs.declared.var.Var.{Var}
 use Rattle.p3l_body.specs.Seq.{SeqTree}
 use Rattle.p3l_c.specs.Syntax.{Signed, Lines, done, keep, write, choose, forever, truth, temp}
-use Rattle.p3l_c.specs.Translate.{Shapes, declared, given_sizes, sizes_at, test_of, next, next_all, spots, first_temp, after_operand, is_deep, is_steady, kept_value, kept_lines, around, guards, value, before, before_all, first_size, other_sizes, index_guard, assign_lines, turn_lines, lines}
+use Rattle.p3l_c.specs.Translate.{Shapes, declared, given_sizes, sizes_at, test_of, next, next_all, spots, first_temp, after_operand, is_deep, is_steady, kept_value, kept_lines, around, value, before, before_all, first_size, other_sizes, index_guard, assign_lines, turn_lines, lines}
 use Rattle.p3l_c.specs.Condition.{vars_shapes, scalar, variables_in, shapes_in}
-use Rattle.p3l_c_print.specs.declared.names.Place.{Place}
+use Rattle.p3l_c_print.specs.declared.names.VariablePlace.{VariablePlace}
 use Rattle.p3l_c_print.specs.declared.names.Kind.{Kind}
 use Rattle.p3l_c_print.specs.declared.names.Kind.TheVariants.{In, Out, Local}
 use Rattle.p3l_c_print.specs.Name.{shape_of, shapes_of, entered, all_entered, names_of}
@@ -92,7 +92,7 @@ lines_same a b same budget (for_ x is e w y js f body after) rest =
     ∙ ap (λ c. assign_lines b x.name is e (forever front test (turn_lines budget c) (lines a budget after rest))) (lines_same a b same budget body step_a ∙ ap (lines b budget body) (assign_same a b same y.name js f done))
     ∙ ap (λ c. assign_lines b x.name is e (forever front test (turn_lines budget (lines b budget body step_b)) c)) (lines_same a b same budget after rest)
 
--- what is declared in the first of two lists, and else in the second
+-- the sizes declared in the first of two lists, or else in the second
 
 abbrev first_of : Option (List ℕ) → Option (List ℕ) → Option (List ℕ)
 first_of (Some sizes) other = Some sizes
@@ -107,7 +107,7 @@ declared_join (p ∷ a) b name = by (bytes_eq p.0 name) (declared_join a b name)
     by false h = h
 
 -- a name that is found is declared
-found_declared : (places : List (List ℕ × Place)) (name : List ℕ) → is_some (lookup (bytes_eq name) places) ≡ is_some (declared (map shape_of places) name)
+found_declared : (places : List (List ℕ × VariablePlace)) (name : List ℕ) → is_some (lookup (bytes_eq name) places) ≡ is_some (declared (map shape_of places) name)
 found_declared [] name = refl
 found_declared (p ∷ places) name =
     by (bytes_eq name p.0) (found_declared places name) ∙ ap (λ t. is_some (cond t (Some p.1.sizes) (declared (map shape_of places) name))) (sym (eq_flip p.0 name))
@@ -131,16 +131,16 @@ again a x name sizes rest h = by (bytes_eq x name) refl
     by true e =
         first_same (declared a name) rest (Some sizes) (ap (λ y. is_some (declared a y)) (sym ((bytes_eq-Decides x name).0 e)) ∙ h)
 
-map_join : (a b : List (List ℕ × Place)) → map shape_of (a ++ b) ≡ map shape_of a ++ map shape_of b
+map_join : (a b : List (List ℕ × VariablePlace)) → map shape_of (a ++ b) ≡ map shape_of a ++ map shape_of b
 map_join [] b = refl
 map_join (p ∷ a) b = ap (λ c. shape_of p ∷ c) (map_join a b)
 
 -- a variable is added, whether its name is new or not
-enters : (kind : Kind) (number : ℕ) (var : Var) (places : List (List ℕ × Place)) (rest : Shapes) (name : List ℕ)
+enters : (kind : Kind) (number : ℕ) (var : Var) (places : List (List ℕ × VariablePlace)) (rest : Shapes) (name : List ℕ)
     → declared (map shape_of (entered kind number var places) ++ rest) name ≡ declared (map shape_of places ++ ((var.name, var.shape.sizes) ∷ rest)) name
 enters kind number var places rest name = by (is_some (lookup (bytes_eq var.name) places)) refl
   where
-    one : List ℕ × Place
+    one : List ℕ × VariablePlace
     one = (var.name, record { kind = kind; number = number; sizes = var.shape.sizes })
 
     by : (t : Bool) → is_some (lookup (bytes_eq var.name) places) ≡ t
@@ -151,7 +151,7 @@ enters kind number var places rest name = by (is_some (lookup (bytes_eq var.name
         ∙ again (map shape_of places) var.name name var.shape.sizes (declared rest name) (sym (found_declared places var.name) ∙ e)
         ∙ sym (declared_join (map shape_of places) ((var.name, var.shape.sizes) ∷ rest) name)
 
-all_enter : (kind : Kind) (number : ℕ) (vars : List Var) (places : List (List ℕ × Place)) (rest : Shapes) (name : List ℕ)
+all_enter : (kind : Kind) (number : ℕ) (vars : List Var) (places : List (List ℕ × VariablePlace)) (rest : Shapes) (name : List ℕ)
     → declared (map shape_of (all_entered kind number vars places) ++ rest) name ≡ declared (map shape_of places ++ (vars_shapes vars ++ rest)) name
 unfolding all_entered
 all_enter kind number [] places rest name = refl

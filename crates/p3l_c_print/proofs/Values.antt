@@ -9,7 +9,7 @@ use Rattle.p3l_ast.specs.declared.expression.BinOp.{BinOp}
 use Rattle.p3l_ast.specs.declared.expression.BinOp.TheVariants.{Or, And, BitOr, BitXor, BitAnd, Eq, Ne, Lt, Le, Gt, Ge, Shl, Shr, Add, Sub, Mul, Div, Rem}
 use Rattle.p3l_ast.specs.Tree as tree
 use Rattle.p3l_ast.specs.Tree.{Phrase, Phrases, read, unary, binary}
-use Rattle.p3l_c.specs.Syntax.{Signed, number, temp, element, quotient, remainder, truth, converted, moved_down, Test}
+use Rattle.p3l_c.specs.Syntax.{Signed, number, temp, element, quotient, remainder, truth, converted, moved_down}
 use Rattle.p3l_c.specs.Translate.{next, next_all, height, value, spots, lowered, is_deep, is_steady, kept_value, kept_next, after_operand, after_operator, first_temp, operator_height, test_of, unary_value, binary_value}
 use Rattle.p3l_c_print.specs.declared.value.Value.{Value}
 use Rattle.p3l_c_print.specs.Name.{Names, literal_text}
@@ -125,7 +125,7 @@ operand_after names n e = ap (λ (x : Value). x.after) (operand_told names n e)
 abbrev operand_as : Names → ℕ → Phrase → Value
 operand_as names n e = told names (kept_value (is_deep e) (next n e) (value n e)) (after_operand n e) (lowered (height e))
 
--- what is made of both operands
+-- a function of both operands gives the same with `operand_as` as with `operand_of`
 made : {A : Type 0} (f : Value → Value → A) (names : Names) (n : ℕ) (a b : Phrase) → f (operand_as names n a) (operand_as names (after_operand n a) b) ≡ f (operand_of names n a) (operand_of names (operand_of names n a).after b)
 made f names n a b =
     ap (λ x. f x (operand_as names (after_operand n a) b)) (sym (operand_told names n a))

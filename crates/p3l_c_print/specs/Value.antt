@@ -228,7 +228,7 @@ abbrev pub undecided_lines : BinOp → List ℕ → ℕ → List ℕ → List �
 undecided_lines Or margin n inner = choice_lines margin (between (codes " != ") (temp_text n) (literal_text (pos 0))) [] inner
 undecided_lines op margin n inner = choice_lines margin (between (codes " != ") (temp_text n) (literal_text (pos 0))) inner []
 
--- whether an operator has a temp of its own, where its right operand is or isn't one before whose use
+-- true exactly if an operator has a temp of its own, given whether its right operand is one before whose use
 -- no lines stand
 abbrev pub own_temp : BinOp → Bool → Bool
 own_temp Or joined = not joined

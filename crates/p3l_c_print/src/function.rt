@@ -15,7 +15,7 @@ use p3l_body::{CheckedSeq, Var};
 use p3l_types::product;
 use std::alloc::Global;
 
-/// How many words an object has at most that does not have static storage.
+/// The maximum number of words of an object that does not have static storage.
 const MOST_AUTOMATIC: u64 = 512;
 
 /// Returns true exactly if an object of these sizes does not have static storage.

@@ -29,7 +29,7 @@ pub enum Kind {
 
 /// A variable: its number among those of its kind, and its sizes.
 #[derive(Debug, Drop)]
-pub struct Place {
+pub struct VariablePlace {
     pub kind: Kind,
     pub number: usize,
     pub sizes: List<u32>,
@@ -39,7 +39,7 @@ pub struct Place {
 #[derive(Drop)]
 pub struct Names<'c> {
     pub alloc: Global,
-    places: IndexMap<Name, Place>,
+    places: IndexMap<Name, VariablePlace>,
     consts: &'c Consts,
     pub home: u32,
 }
@@ -126,7 +126,7 @@ impl<'c> Names<'c> {
             return Ok(());
         }
         let alloc = self.alloc;
-        let place = Place {
+        let place = VariablePlace {
             kind,
             number,
             sizes: List::from_vec(var.shape.sizes.as_slice().to_vec(alloc)?),
@@ -135,7 +135,7 @@ impl<'c> Names<'c> {
     }
 
     /// Adds a variable whose name is not there yet.
-    fn add(&mut self, name: Name, place: Place) -> Result<(), NoMemory>
+    fn add(&mut self, name: Name, place: VariablePlace) -> Result<(), NoMemory>
         requires { lookup (bytes_eq name) self.old.places ≡ None }
         ensures { OnGiven result (self.new
             ≡ record self.old { places = self.old.places ++ (name, place) ∷ [] }) }
@@ -145,7 +145,7 @@ impl<'c> Names<'c> {
     }
 
     /// The variable of a name.
-    fn place(&self, name: &Name) -> Option<&Place>
+    fn place(&self, name: &Name) -> Option<&VariablePlace>
         ensures { option_copied result ≡ lookup (bytes_eq name.now) self.now.places }
     {
         self.places.get(name)
@@ -172,7 +172,7 @@ impl<'c> Names<'c> {
         }
     }
 
-    fn variable(&self, name: &Name, place: &Place) -> Result<Text, NoMemory>
+    fn variable(&self, name: &Name, place: &VariablePlace) -> Result<Text, NoMemory>
         ensures { IfGiven result (λ text. text ≡ place_text name.now place.now) }
     {
         let kind = kind_text(place.kind);

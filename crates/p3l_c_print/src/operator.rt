@@ -5,7 +5,7 @@ ghost use Rattle.p3l_c_print.specs.Value.{class_of, sign_text};
 
 use p3l_ast::BinOp;
 
-/// How an operator between operands is written.
+/// A kind of operator between operands, by the way it is written.
 #[derive(Clone, Copy, Debug, Drop, PartialEq, Eq)]
 pub enum Class {
     /// `||` and `&&`: the right operand is only evaluated where the left one does not decide.

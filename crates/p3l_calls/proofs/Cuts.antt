@@ -54,7 +54,7 @@ pub record IsInSlice (indices : List Index) (ins : ℕ) (slice : Slice) : Type 0
   pub second : second_count slice.dims + 1 ≤ length indices
   pub within : LiesWithin slice ins
 
--- what the brackets leave is the callee's port
+-- the shape left by the brackets has as many words as the callee's port
 left-of : (port : Var) (subs : List Sub) (shape : Shape) → leaves (Some port) subs shape ≡ true →
     (left : Shape) × (sliced subs shape ≡ Some left) × (product port.shape.sizes ≡ product left.sizes)
 left-of port subs shape e = by (sliced subs shape) refl e
@@ -157,7 +157,7 @@ outs-fit indices place start (var ∷ vars) (port ∷ ports) (out ∷ outs) slic
     } in
     subst (FitOuts indices start (var ∷ vars) (port ∷ ports)) is first
 
--- where a port is in its token
+-- a located port is sized and lies within its token
 located-fits : (start : ℕ) (vars : List Var) (name : List ℕ) (array : Located) → AllSized vars → lookup (bytes_eq name) (locations start vars) ≡ Some array →
     IsSized array.shape × (array.start + product array.shape.sizes ≤ start + total vars)
 unfolding AllSized

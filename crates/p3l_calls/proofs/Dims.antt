@@ -154,7 +154,7 @@ dims-length indices subs [] = refl
 dims-length indices [] (size ∷ sizes) = omega (arith, dims-length indices [] sizes)
 dims-length indices (sub ∷ subs) (size ∷ sizes) = omega (arith, dims-length indices subs sizes)
 
--- how often the free indices occur in brackets
+-- the counts of the two free indices in brackets
 firsts : List Index → List Sub → ℕ
 firsts indices [] = 0
 firsts indices (sub ∷ subs) = one_at_first (place_in indices (Some sub)) + firsts indices subs

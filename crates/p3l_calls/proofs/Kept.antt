@@ -1,4 +1,4 @@
--- What rules say that are kept.
+-- Consequences of rules that are kept.
 use Rattle.std.proofs.Common.{◌≡◌, Bool, true, false, List, ◌∷◌, Result, Ok, Err, refl}
 use Rattle.std.specs.Prelude.{◌&&◌, not, if◌then◌else◌}
 use Rattle.p3l_ast.specs.declared.position.Pos.{Pos}

@@ -8,7 +8,7 @@ use Rattle.p3l_types.specs.Verdict.{Verdict, given}
 use Rattle.p3l_body.specs.declared.var.Var.{Var}
 use Rattle.p3l_calls.specs.Plain.{first, after_first, in_order}
 
--- what is in place k
+-- the first element after k dropped ones is element k
 pub first-drop : {A : Type 0} (xs : List A) (k : ℕ) → first (drop k xs) ≡ slice_get xs k
 first-drop [] zero = refl
 first-drop [] (suc k) = refl
@@ -51,7 +51,7 @@ module _ {A : Type 0} (rule : Option Var → Option Var → A → Verdict) (plac
       ∙ ap (λ vs. given (rule (slice_get vars k) (slice_get ports k) (get_or xs k d)) (λ y. in_order rule place vs (after_first (drop k ports)) (drop (k + 1) xs))) (after_first-drop vars k)
       ∙ ap (λ ps. given (rule (slice_get vars k) (slice_get ports k) (get_or xs k d)) (λ y. in_order rule place (drop (k + 1) vars) ps (drop (k + 1) xs))) (after_first-drop ports k))
 
-  -- where the rule of the next entry is broken, and where it is kept
+  -- the rule of the rest, if that of its next entry is broken and if it is kept
   pub in_order-broken : (k : ℕ) (x : A) (e : SourceRefusal) → k < length xs → x ≡ get_or xs k x →
       rule (slice_get vars k) (slice_get ports k) x ≡ Err e → in_order rule place (drop k vars) (drop k ports) (drop k xs) ≡ Err e
   in_order-broken k x e h is broken =

@@ -45,7 +45,7 @@ abbrev pub is_free_of : List ℕ → Sub → Bool
 is_free_of name Whole = false
 is_free_of name (Free spot) = bytes_eq name spot.name
 
--- how many free indices are in brackets
+-- the number of free indices in brackets
 abbrev pub free_count : List Sub → ℕ
 free_count subs = count_by is_free subs
 
@@ -85,7 +85,7 @@ abbrev pub second_place : List Index → List ℕ → Place
 second_place [] name = Rest
 second_place (j ∷ more) name = if bytes_eq j.name name then Second else Rest
 
--- which free index a name is
+-- the place of a name among the free indices
 abbrev pub place_named : List Index → List ℕ → Place
 place_named [] name = Rest
 place_named (i ∷ more) name = if bytes_eq i.name name then First else second_place more name

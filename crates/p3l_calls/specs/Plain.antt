@@ -23,7 +23,7 @@ after_first [] = []
 after_first (x ∷ xs) = xs
 
 -- entries by their rule one after another, each with the next of the variables whose names are
--- expected and the next of the callee's ports. Where the entries end, so must the names, or the
+-- expected and the next of the callee's ports. The names must end with the entries, or the
 -- fault is at the call's name.
 abbrev pub in_order : {A : Type 0} → (Option Var → Option Var → A → Verdict) → Pos → List Var → List Var → List A → Verdict
 in_order rule place vars ports [] = broken_if (nat_lt 0 (length vars)) Wiring place

@@ -7,7 +7,7 @@ ghost use Rattle.p3l_calls.specs.Condition.{condition_out, condition};
 use crate::plain::check_plain_ins;
 use crate::port::refused;
 use p3l_ast::{Call, Fault, OutArg, Pos, SourceRefusal};
-use p3l_body::{Ports, Scope, Var, declare_one};
+use p3l_body::{Ports, Var, Variables, declare_one};
 use p3l_types::Consts;
 use std::alloc::Global;
 
@@ -15,7 +15,7 @@ use std::alloc::Global;
 fn check_condition_out(
     alloc: Global,
     consts: &Consts,
-    scope: &Scope,
+    scope: &Variables,
     call: Pos,
     ports: &[Var],
     outs: &[OutArg],
@@ -37,7 +37,7 @@ fn check_condition_out(
 pub fn check_condition(
     alloc: Global,
     consts: &Consts,
-    scope: &Scope,
+    scope: &Variables,
     loop_outs: &[Var],
     callee: &Ports,
     call: &Call,

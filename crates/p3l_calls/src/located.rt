@@ -33,11 +33,11 @@ fn located_at(alloc: Global, start: u32, shape: &Shape) -> Result<Located, NoMem
 
 /// Ports by their names, which contracts see as a list in the order in which they were entered.
 #[derive(Drop)]
-pub struct Table {
+pub struct PortTable {
     ports: IndexMap<Name, Located>,
 }
 
-impl Model for Table {
+impl Model for PortTable {
     ghost use Rattle.p3l_calls.specs.Located.{Locations};
 
     ghost Value = { Locations };
@@ -45,12 +45,12 @@ impl Model for Table {
     ghost view = { λ it. it.ports.entries };
 }
 
-impl Table {
+impl PortTable {
     /// No ports.
-    pub fn new(alloc: Global) -> Table
+    pub fn new(alloc: Global) -> PortTable
         ensures { result ≡ [] }
     {
-        Table {
+        PortTable {
             ports: IndexMap::new(alloc),
         }
     }
@@ -78,12 +78,12 @@ impl Table {
 }
 
 /// The table of the ports of a module, the first of which starts at word 0.
-pub fn locate(alloc: Global, vars: &[Var]) -> Result<Table, NoMemory>
+pub fn locate(alloc: Global, vars: &[Var]) -> Result<PortTable, NoMemory>
     requires { AreSized vars.now }
     ensures { IfGiven result (λ table. (name : List ℕ)
         → lookup (bytes_eq name) table ≡ located vars.now name) }
 {
-    let mut table = Table::new(alloc);
+    let mut table = PortTable::new(alloc);
     let mut start = 0;
     for var in vars {
         table.add(alloc, start, var)?;

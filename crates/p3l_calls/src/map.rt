@@ -13,7 +13,7 @@ use crate::index::{
     Index, are_indices, check_members, check_sizes, first_size, has_indices, indices_in, place_in,
     second_size,
 };
-use crate::located::{Located, Table, locate};
+use crate::located::{Located, PortTable, locate};
 use crate::plain::check_end;
 use crate::port::{has_shape, refused};
 use p3l_ast::{Arg, Call, Fault, OutArg, Pos, SourceRefusal, Sub};
@@ -182,7 +182,7 @@ fn check_map_in(
 fn map_in(
     alloc: Global,
     indices: &[Index],
-    table: &Table,
+    table: &PortTable,
     ports: &[Var],
     k: usize,
     arg: &Arg,
@@ -229,8 +229,8 @@ fn indices_of(alloc: Global, vars: &[Var], outs: &[OutArg]) -> Result<List<Index
     }
 }
 
-/// How a map with these ports cuts its token, if its call keeps the rules: first those of the outs, then
-/// those of the ins.
+/// Returns the cut of the token of a map with these ports, if its call keeps the rules: first those
+/// of the outs, then those of the ins.
 pub fn cut_of(
     alloc: Global,
     ports: &Ports,

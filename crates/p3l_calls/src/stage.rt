@@ -12,7 +12,7 @@ use crate::plain::check_plain_ins;
 use crate::port::{has_shape, refused};
 use p3l_ast::{Call, Fault, OutArg, SourceRefusal};
 use p3l_base::List;
-use p3l_body::{Ports, Scope, Var, declare_one, enter};
+use p3l_body::{Ports, Var, Variables, declare_one, enter};
 use p3l_types::{Consts, words_of};
 use std::alloc::Global;
 
@@ -20,7 +20,7 @@ use std::alloc::Global;
 fn fresh_out(
     alloc: Global,
     consts: &Consts,
-    scope: &Scope,
+    scope: &Variables,
     words: u64,
     ports: &[Var],
     k: usize,
@@ -48,7 +48,7 @@ fn fresh_out(
 fn fresh_outs(
     alloc: Global,
     consts: &Consts,
-    scope: &mut Scope,
+    scope: &mut Variables,
     ports: &[Var],
     outs: &[OutArg],
 ) -> Result<List<Var>, SourceRefusal>
@@ -71,7 +71,7 @@ fn fresh_outs(
 pub fn check_stage(
     alloc: Global,
     consts: &Consts,
-    scope: &mut Scope,
+    scope: &mut Variables,
     taken: &[Var],
     callee: &Ports,
     call: &Call,

@@ -30,7 +30,7 @@ no_row = record { node = 0; bound = 0; cap = 0; least = 0 }
 key_test : Key → Key → Bool
 key_test a b = (a.node == b.node) && ((a.bound == b.bound) && (a.cap == b.cap))
 
--- whether there is a row hangs on the keys alone
+-- having a row depends on the keys alone
 pub has_same : (rows others : List Row) (k : Key) → map key_of rows ≡ map key_of others → Has rows k → Has others k
 unfolding kept key_test
 has_same [] [] k same has = absurd cc

@@ -5,7 +5,7 @@ use Rattle.p3l_cert.specs.declared.item.RowItem.{RowItem}
 use Rattle.p3l_cert.specs.Text.{header, processors_word, counts_word, service_word, used_word, row_word, end_line, space, feed, most_number, most_bound, count_format, next_count, first_count, counts_format, is_above, numbers_format, row_format, next_row, first_row, rows_format, body_format, cert_format}
 use Rattle.p3l_cert.specs.laws.Text.{counts_series, rows_series, lawful_numbers, lawful_rows}
 use Rattle.p3l_format.specs.Decimal.{number_in}
-use Rattle.p3l_format.specs.declared.fault.Fault.{Fault}
+use Rattle.p3l_format.specs.declared.fault.FieldFault.{FieldFault}
 use Rattle.p3l_format.specs.Format.{read_all}
 use Rattle.p3l_format.specs.Line.{line, line_number, number_line}
 use Rattle.p3l_format.specs.Series.{until}
@@ -99,5 +99,5 @@ unfolding cert_format
 cert_whole = each_text_then IsWhole IsWhole IsWhole header body_format whole_append (whole_line header header_is_line) body_whole
 
 -- the line that is reported of a refused text
-pub cert_first_bad : (s : List ℕ) (f : Fault) → read_all cert_format s ≡ Err f → IsFirstBadLine cert_format s (line_number s f.left)
+pub cert_first_bad : (s : List ℕ) (f : FieldFault) → read_all cert_format s ≡ Err f → IsFirstBadLine cert_format s (line_number s f.left)
 cert_first_bad s f e = first_bad cert_format cert_reports cert_whole s f e

@@ -1,4 +1,4 @@
--- What the numbers of a certificate keep that has a text.
+-- Bounds on the numbers of a certificate that has a text.
 use Rattle.std.proofs.Common.{◌≡◌, ℕ, zero, suc, ◌^◌, ◌≤◌, ◌<◌, true, leb, ltb, ◌&&◌, List, [], ◌∷◌, get_or, length, refl, arith, lit<}
 use Rattle.std.specs.List.{All}
 use Rattle.std.proofs.lemmas.Bool.{leb-true, le-leb, lt-ltb}

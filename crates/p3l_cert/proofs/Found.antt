@@ -1,4 +1,4 @@
--- What the rule of a key finds where the rows that it depends on are there, and what it depends on.
+-- Results of the rule of a key if the rows that it depends on are there, and the keys that it depends on.
 use Rattle.std.proofs.Common.{◌≡◌, ℕ, zero, suc, ◌+◌, ◌-◌, ◌*◌, ◌/◌, ◌^◌, ◌≤◌, ◌&&◌, leb, min, List, [], ◌∷◌, ◌++◌, map, Result, Ok, Err, length, refl, ap, ◌∙◌, subst, arith, inl, inr}
 use Rattle.std.specs.Prelude.{slice_index}
 use Rattle.std.specs.List.{All}

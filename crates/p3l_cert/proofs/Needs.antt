@@ -61,7 +61,7 @@ pub cons_all : (P : Key → Type 0) (k : Key) (keys : List Key) → P k → All 
 cons_all P k keys first rest zero d inside = first
 cons_all P k keys first rest (suc i) d inside = rest i d (omega arith)
 
--- what holds of all pieces holds of each, and back
+-- a property of all pieces holds of each, and back
 all_piece : (f : Key → List Key) (P : Key → Type 0) (keys : List Key) → All P (flat_map f keys) → (i : ℕ) (e : Key) → i < length keys → All P (f (get_or keys i e))
 all_piece f P [] all i e inside = absurd (omega arith)
 all_piece f P (k ∷ keys) all zero e inside = λ j d within.
@@ -73,7 +73,7 @@ pub flat_all : (f : Key → List Key) (P : Key → Type 0) (keys : List Key) →
 flat_all f P [] each = none_all P
 flat_all f P (k ∷ keys) each = All-append P (f k) (flat_map f keys) (each 0 k (omega arith)) (flat_all f P keys (λ i e inside. each (suc i) e (omega arith)))
 
--- what holds of the keys that a rule may rest on
+-- a property holds of all keys that a rule may rest on, if it does for each kind of cost
 pub depends_all : (P : Key → Type 0) (c : NodeCost) (parts : List ℕ) (t cap : ℕ)
     → ((i x : ℕ) → i < length parts → c ≡ Stages → P (key (get_or parts i x) t cap))
     → ((r : Span) (h : Sharing) (e n : ℕ) → c ≡ Workers r h e → e ≤ t → low_of r ≤ n → n < low_of r + run_of r cap → P (key (slice_index parts 0) (part_bound h t n) ((cap - 2) / n)))
@@ -175,13 +175,13 @@ module _ (tree : Tree) (costs : Costs) (lawful : IsLawfulTree tree) (priced : Ar
       (λ r h e n same early from to. omega (arith, (first_after tree costs lawful priced k.node is.0 (subst NeedsFirst (sym same ∙ is.1) tt)).0))
       (λ turns e same early room. omega (arith, (first_after tree costs lawful priced k.node is.0 (subst NeedsFirst (sym same ∙ is.1) tt)).0)))
 
-  -- what holds of a key's keys holds of it
+  -- a property of a key's keys holds of it
   pub first_key : (P : Key → Type 0) (d : ℕ) (k : Key) → IsDeep tree d k.node → All P (keys_from tree costs d k) → P k
   unfolding keys_from
   first_key P zero k deep all = absurd (IsSubtree-zero tree k.node deep.0 deep.1)
   first_key P (suc d) k deep all = all 0 k (omega arith)
 
-  -- what holds of all keys that are needed holds of those that each of them depends on
+  -- a property of all needed keys holds of those that each of them depends on
   pub keys_closed : (P : Key → Type 0) (d : ℕ) (k : Key) → IsDeep tree d k.node → All P (keys_from tree costs d k) → All (λ j. All P (depends_on tree costs j)) (keys_from tree costs d k)
   unfolding keys_from
   keys_closed P zero k deep all = absurd (IsSubtree-zero tree k.node deep.0 deep.1)

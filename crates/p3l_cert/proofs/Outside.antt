@@ -25,7 +25,7 @@ use Rattle.p3l_cert.specs.Rule.{key, cost_at}
 use Rattle.p3l_cert.proofs.Needs.{IsDeep, by_cost, depends_all, depends_deep, cons_all, none_all, flat_all}
 use Rattle.p3l_cert.proofs.Nodes.{NeedsFirst, cost_is, first_some}
 
--- what is outside units below a node, down to a depth, is outside units
+-- numbers outside units below a node, down to a depth, are outside units
 abbrev Outer : Tree → ℕ → ℕ → Type 0
 Outer tree d node = (x : ℕ) → Contains (outside_from tree d node) x → Contains (outside tree) x
 

@@ -83,7 +83,7 @@ few_power k small =
 step_yes : (r : Span) (fold : FoldCost) (t cap m : ℕ) → r.low ≤ m → m ≤ r.high → timed (segments_service fold m) ≤ t → segments_step r fold t cap m ≡ joined_procs m
 step_yes r fold t cap m low high soon = rw (le-leb r.low m low, le-leb m r.high high, le-leb (timed (segments_service fold m)) t soon) refl
 
--- what is no more than cap comes from a lawful number in time
+-- a step of no more than cap comes from a lawful number in time
 step_is : (r : Span) (fold : FoldCost) (t cap m : ℕ) → segments_step r fold t cap m ≤ cap → (r.low ≤ m) × (m ≤ r.high) × (timed (segments_service fold m) ≤ t) × (segments_step r fold t cap m ≡ joined_procs m)
 step_is r fold t cap m small =
     elim (cases_Bool (leb r.low m && (leb m r.high && leb (timed (segments_service fold m)) t))) [
@@ -143,7 +143,7 @@ leaf_true s t cap w e =
     ]
 
 module _ (look : Key → Result ℕ Key) (part : ℕ → Costed) where
-  -- what there is of a part is true
+  -- the results for a part are true
   abbrev IsTrueAt : ℕ → Type 0
   IsTrueAt p = (t cap v : ℕ) → look (key p t cap) ≡ Ok v → slowest (part p) < never → IsLeast (part p) t cap v
 

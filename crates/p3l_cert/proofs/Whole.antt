@@ -101,7 +101,7 @@ module _ (tree : Tree) (costs : Costs) (lawful : IsLawfulTree tree) (priced : Ar
     has_needed : All (Has rows) (needed_keys tree costs time processors)
     has_needed = All-permutation (Has rows) keys (needed_keys tree costs time processors) (IsPermutation-sym (needed_keys tree costs time processors) keys perm) are.all
 
-    -- what holds of all keys holds of each row's
+    -- a property of all keys holds of each row's
     of_rows : (P : Key → Type 0) → All P (needed_keys tree costs time processors) → All (λ (row : Row). P (key_of row)) rows
     of_rows P all i d inside =
         let o = are.only i d inside in

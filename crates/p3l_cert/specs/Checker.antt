@@ -1,4 +1,4 @@
--- What a certificate says, and the first of its tests that fails.
+-- The claims of a certificate, and the first of its tests that fails.
 use Rattle.std.specs.Prelude.{◌≡◌, ℕ, suc, ◌+◌, ◌-◌, ◌<◌, ◌≤◌, ◌==◌, nat_le, if◌then◌else◌, Option, Some, None, Result, Ok, Err, List, [], ◌∷◌, length}
 use Rattle.std.specs.List.{All}
 use Rattle.p3l_skel.specs.declared.tree.Tree.{Tree}

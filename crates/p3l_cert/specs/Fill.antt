@@ -11,7 +11,7 @@ use Rattle.p3l_cert.specs.Order.{is_below}
 use Rattle.p3l_cert.specs.Rows.{AreRows}
 use Rattle.p3l_cert.specs.Rule.{key_of, kept, cost_at, Follows}
 
--- whether a key is another than that of the last row
+-- true exactly if a key is above that of the last row, or there is no row
 abbrev pub is_next : List Row → Key → Bool
 is_next rows k = if length rows == 0 then true else is_below (get_or rows (length rows - 1) (record { node = 0; bound = 0; cap = 0; least = 0 })) k
 

@@ -1,4 +1,4 @@
--- Where the row of a key is, or would be.
+-- The place of the row of a key, or the place at which it would be inserted.
 use Rattle.std.specs.Prelude.{◌≡◌, ℕ, true, false, ◌≤◌, ◌<◌, List, get_or, length}
 use Rattle.p3l_cert.specs.declared.cert.Row.{Row}
 use Rattle.p3l_cert.specs.declared.cert.Key.{Key}

@@ -88,7 +88,7 @@ rule_of look (Loop turns e) parts t cap =
 
 -- ---- by the rows of a certificate
 
--- what a node of the tree costs, if it is outside units
+-- the cost of a node of the tree, if it is outside units
 unfoldable pub cost_at : Tree → Costs → ℕ → Option NodeCost
 cost_at tree costs node =
     if nat_lt node (length tree.nodes) && list_any (λ k. k == node) (outside tree) then Some (node_cost tree costs node) else None

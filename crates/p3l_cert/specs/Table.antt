@@ -1,4 +1,4 @@
--- What each node outside units costs, kept for all rows.
+-- The table of the costs of each node outside units, kept for all rows.
 use Rattle.std.specs.Prelude.{◌≡◌, ℕ, ◌<◌, List, Option, None, get_or, length}
 use Rattle.p3l_skel.specs.declared.tree.Tree.{Tree}
 use Rattle.p3l_cost.specs.declared.costs.Costs.{Costs}

@@ -1,4 +1,4 @@
--- What is so of a module that a call names.
+-- Facts about the module that a call names.
 use Rattle.std.proofs.Common.{◌≡◌, ℕ, ◌<◌, Bool, true, false, IfSome, length, Ok, Err, Option, Some, None, refl, subst}
 use Rattle.std.specs.Prelude.{◌&&◌, ◌==◌, not}
 use Rattle.std.specs.Option.{option_map_or}
@@ -25,10 +25,10 @@ process-kept false sequential e h = absurd cc
 
 -- an earlier module that may run where it is called
 pub record IsRunnable (in_process : Bool) (modules : Modules) (k : ℕ) : Type 0 where
-  pub inside : k < length modules.wired
-  pub sequential : in_process ≡ true → (module_at modules.wired k).sequential ≡ true
+  pub inside : k < length modules.callables
+  pub sequential : in_process ≡ true → (module_at modules.callables k).sequential ≡ true
 
-pub runnable-is : (in_process : Bool) (before : Before) (call : Call) (k : ℕ) → length before.modules.wired ≡ length before.modules.infos →
+pub runnable-is : (in_process : Bool) (before : Before) (call : Call) (k : ℕ) → length before.modules.callables ≡ length before.modules.infos →
     runnable_callee in_process before call ≡ Ok k → IsRunnable in_process before.modules k
 runnable-is in_process before call k same e =
     let modules : Modules = before.modules in
@@ -36,11 +36,11 @@ runnable-is in_process before call k same e =
     let rule = given-taken (process_rule in_process modules found.0 call.at) _ k found.2 in
     let is : found.0 ≡ k = cc (rule.2) in
     let named : number_of modules call.at.name ≡ Some found.0 = some-found (number_of modules call.at.name) _ found.0 found.1 in
-    let below : IfSome (number_of modules call.at.name) (λ n. n < length modules.wired) = number-below call.at.name modules.infos (length modules.wired) same in
-    let there : found.0 < length modules.wired = subst (λ o. IfSome o (λ n. n < length modules.wired)) named below in
-    let kept = kept-false (in_process && not (module_at modules.wired found.0).sequential) NotInComp call.at.pos rule.0 rule.1 in
+    let below : IfSome (number_of modules call.at.name) (λ n. n < length modules.callables) = number-below call.at.name modules.infos (length modules.callables) same in
+    let there : found.0 < length modules.callables = subst (λ o. IfSome o (λ n. n < length modules.callables)) named below in
+    let kept = kept-false (in_process && not (module_at modules.callables found.0).sequential) NotInComp call.at.pos rule.0 rule.1 in
     subst (IsRunnable in_process modules) is
-    (record { inside = there; sequential = process-kept in_process (module_at modules.wired found.0).sequential kept })
+    (record { inside = there; sequential = process-kept in_process (module_at modules.callables found.0).sequential kept })
 
 -- a call has as many arguments as its callee has ports
 pub record HasArity (callee : Ports) (call : Call) : Type 0 where
@@ -52,7 +52,7 @@ pub record IsCalled (in_process : Bool) (modules : Modules) (call : Call) (k : �
   pub runs : IsRunnable in_process modules k
   pub arity : HasArity (ports_at modules k) call
 
-pub called-is : (in_process : Bool) (before : Before) (call : Call) (k : ℕ) → length before.modules.wired ≡ length before.modules.infos →
+pub called-is : (in_process : Bool) (before : Before) (call : Call) (k : ℕ) → length before.modules.callables ≡ length before.modules.infos →
     called in_process before call ≡ Ok k → IsCalled in_process before.modules call k
 called-is in_process before call k same e =
     let found = given-taken (runnable_callee in_process before call) _ k e in
@@ -68,7 +68,7 @@ called-is in_process before call k same e =
     (record { runs = runnable-is in_process before call found.0 same found.1; arity = arity })
 
 -- the operator of a reduce
-pub operator-is : (before : Before) (call : Call) (k : ℕ) → length before.modules.wired ≡ length before.modules.infos →
+pub operator-is : (before : Before) (call : Call) (k : ℕ) → length before.modules.callables ≡ length before.modules.infos →
     operator_called before call ≡ Ok k → IsRunnable true before.modules k
 operator-is before call k same e =
     let found = given-taken (runnable_callee true before call) _ k e in

@@ -36,7 +36,7 @@ runnable_definite : (in_process : Bool) (before : Before) (call : Call) → IsDe
 runnable_definite in_process before call =
     given_definite (callee_of before call.at) (λ k. given (process_rule in_process before.modules k call.at) (λ x. Ok k)) (callee_definite before call.at)
     (λ k. given_definite (process_rule in_process before.modules k call.at) (λ x. Ok k)
-    (broken_definite (in_process && not (module_at before.modules.wired k).sequential) NotInComp call.at.pos) (λ x. ok_definite k))
+    (broken_definite (in_process && not (module_at before.modules.callables k).sequential) NotInComp call.at.pos) (λ x. ok_definite k))
 
 called_definite : (in_process : Bool) (before : Before) (call : Call) → IsDefinite (called in_process before call)
 called_definite in_process before call =

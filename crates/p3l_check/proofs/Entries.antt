@@ -11,7 +11,7 @@ use Rattle.p3l_check.specs.declared.progress.Progress.{Progress}
 use Rattle.p3l_check.specs.Entry.{Checked, checked_result, checked_entry, checked_entries}
 
 module _ (checked : Checked) (entries : List Entry) (places : List (List ℕ × ℕ)) (are : ArePlaces (map entry_tree entries) places) (k : ℕ) where
-  -- what is ahead, by the table
+  -- the names defined ahead are those of the table
   ahead : defined_from places k ≡ defines (map entry_tree (drop k entries))
   ahead = λ j name. (are k name ∙ ap (λ es. defines es name) (drop-map entry_tree k entries)) j
 
@@ -33,7 +33,7 @@ module _ (checked : Checked) (entries : List Entry) (places : List (List ℕ × 
   entries-refused e refusal inside is refused =
       entries-step e inside is ∙ ap (λ r. given r (λ next. checked_entries next (map entry_tree (drop (k + 1) entries)))) refused
 
-  -- a refusal of an entry, or the want of memory there, is that of the entries from it on
+  -- a refusal of an entry, also because it is out of memory, is the refusal of the entries from it on
   pub refused-left : (e : Entry) (refusal : SourceRefusal) → k < length entries → e ≡ get_or entries k e →
       Gives {A = Checked} (Err refusal) (checked_entry checked (defined_from places k) (entry_tree e)) → Gives {A = Checked} (Err refusal) (checked_entries checked (map entry_tree (drop k entries)))
   refused-left e NoMemory inside is g = g

@@ -3,7 +3,7 @@ use Rattle.std.proofs.Common.{◌≡◌, ◌≢◌, ℕ, zero, suc, ◌+◌, ◌
 use Rattle.std.proofs.lemmas.List.{take_more, take-append-drop, append-nil, take_all}
 use Rattle.p3l_skel.specs.declared.tree.Node.{Node}
 use Rattle.p3l_skel.specs.Tree.{by_parts}
-use Rattle.p3l_check.specs.declared.wired.Wired.{Wired}
+use Rattle.p3l_check.specs.declared.callables.Callable.{Callable}
 use Rattle.p3l_check.specs.Wiring.{module_at}
 use Rattle.p3l_check.specs.declared.unfolding.UnfoldRefusal.{UnfoldRefusal}
 use Rattle.p3l_check.specs.declared.unfolding.UnfoldRefusal.TheVariants.{TooDeep, TooManyInstances, TooHeavy, NoMemory}
@@ -11,18 +11,18 @@ use Rattle.p3l_check.specs.Refusing.{IsCutShort}
 use Rattle.p3l_check.specs.Unfolding.{instances_of, firsts_of, node_of, first_node, instance}
 
 -- an instance is its first node, with the instances of what the module calls after it
-pub instance-step : (wired : List Wired) (d k at : ℕ) → instance wired (suc d) k at ≡ first_node wired (instance wired d) k at ∷ instances_of (instance wired d) (module_at wired k).calls (at + 1)
+pub instance-step : (callables : List Callable) (d k at : ℕ) → instance callables (suc d) k at ≡ first_node callables (instance callables d) k at ∷ instances_of (instance callables d) (module_at callables k).calls (at + 1)
 unfolding instance by_parts
-instance-step wired d k at = refl
+instance-step callables d k at = refl
 
-pub instance-none : (wired : List Wired) (k at : ℕ) → instance wired zero k at ≡ []
+pub instance-none : (callables : List Callable) (k at : ℕ) → instance callables zero k at ≡ []
 unfolding instance by_parts
-instance-none wired k at = refl
+instance-none callables k at = refl
 
 -- the same, where the levels are counted down
-pub instance-down : (wired : List Wired) (levels k at : ℕ) → levels ≢ 0 → instance wired levels k at ≡ first_node wired (instance wired (levels - 1)) k at ∷ instances_of (instance wired (levels - 1)) (module_at wired k).calls (at + 1)
-instance-down wired zero k at some = absurd (some refl)
-instance-down wired (suc d) k at some = let e : suc d - 1 ≡ d = omega arith in rw e (instance-step wired d k at)
+pub instance-down : (callables : List Callable) (levels k at : ℕ) → levels ≢ 0 → instance callables levels k at ≡ first_node callables (instance callables (levels - 1)) k at ∷ instances_of (instance callables (levels - 1)) (module_at callables k).calls (at + 1)
+instance-down callables zero k at some = absurd (some refl)
+instance-down callables (suc d) k at some = let e : suc d - 1 ≡ d = omega arith in rw e (instance-step callables d k at)
 
 -- more instances after others
 pub instances-append : (below : ℕ → ℕ → List Node) (xs ys : List ℕ) (at : ℕ) → instances_of below (xs ++ ys) at ≡ instances_of below xs at ++ instances_of below ys (at + length (instances_of below xs at))
@@ -70,45 +70,45 @@ instances-within below xs n at =
     = ap (λ ys. length (instances_of below ys at)) (sym (take-append-drop n xs)) ∙ (ap length (instances-append below (take n xs) (drop n xs) at) ∙ length-append (instances_of below (take n xs) at) _) in
     omega (arith, e)
 
--- where there is no room, an instance has a node too many
-pub many_at : (wired : List Wired) (levels k at : ℕ) → levels ≢ 0 → at ≡ 128 → 128 < at + length (instance wired levels k at)
-many_at wired levels k at some full =
-    rw (instance-down wired levels k at some) (omega (arith, full))
+-- without room, an instance has a node too many
+pub many_at : (callables : List Callable) (levels k at : ℕ) → levels ≢ 0 → at ≡ 128 → 128 < at + length (instance callables levels k at)
+many_at callables levels k at some full =
+    rw (instance-down callables levels k at some) (omega (arith, full))
 
--- where the instance of a call is cut short, so is the whole
-pub short_below : (wired : List Wired) (levels k at i first : ℕ) → levels ≢ 0 → i < length (module_at wired k).calls
-    → first ≡ (at + 1) + length (instances_of (instance wired (levels - 1)) (take i (module_at wired k).calls) (at + 1))
-    → (refusal : UnfoldRefusal) → IsCutShort wired (levels - 1) (get_or (module_at wired k).calls i 0) first refusal → IsCutShort wired levels k at refusal
-short_below wired levels k at i first some inside is TooDeep short = short
-short_below wired levels k at i first some inside is TooHeavy short = short
-short_below wired levels k at i first some inside is NoMemory short = short
-short_below wired levels k at i first some inside is TooManyInstances short =
-    let calls : List ℕ = (module_at wired k).calls in
-    let below : ℕ → ℕ → List Node = instance wired (levels - 1) in
+-- if the instance of a call is cut short, so is the whole
+pub short_below : (callables : List Callable) (levels k at i first : ℕ) → levels ≢ 0 → i < length (module_at callables k).calls
+    → first ≡ (at + 1) + length (instances_of (instance callables (levels - 1)) (take i (module_at callables k).calls) (at + 1))
+    → (refusal : UnfoldRefusal) → IsCutShort callables (levels - 1) (get_or (module_at callables k).calls i 0) first refusal → IsCutShort callables levels k at refusal
+short_below callables levels k at i first some inside is TooDeep short = short
+short_below callables levels k at i first some inside is TooHeavy short = short
+short_below callables levels k at i first some inside is NoMemory short = short
+short_below callables levels k at i first some inside is TooManyInstances short =
+    let calls : List ℕ = (module_at callables k).calls in
+    let below : ℕ → ℕ → List Node = instance callables (levels - 1) in
     let more : length (instances_of below (take (i + 1) calls) (at + 1)) ≡ length (instances_of below (take i calls) (at + 1)) + length (below (get_or calls i 0) first)
     = ap length (instances-more below calls i (at + 1) inside) ∙ (length-append (instances_of below (take i calls) (at + 1)) _ ∙ ap (λ f. length (instances_of below (take i calls) (at + 1)) + length (below (get_or calls i 0) f)) (sym is)) in
     let within : length (instances_of below (take (i + 1) calls) (at + 1)) ≤ length (instances_of below calls (at + 1)) = instances-within below calls (i + 1) (at + 1) in
-    rw (instance-down wired levels k at some) (omega (arith, more, within, is, short))
+    rw (instance-down callables levels k at some) (omega (arith, more, within, is, short))
 
 -- the same, where the calls are read from the module
-pub short_at : (wired : List Wired) (levels k at i first : ℕ) (calls : List ℕ) → calls ≡ (module_at wired k).calls → levels ≢ 0 → i < length calls
-    → first ≡ (at + 1) + length (instances_of (instance wired (levels - 1)) (take i calls) (at + 1))
-    → (refusal : UnfoldRefusal) → IsCutShort wired (levels - 1) (get_or calls i 0) first refusal → IsCutShort wired levels k at refusal
-short_at wired levels k at i first calls same some =
-    let P : List ℕ → Type 0 = λ cs. i < length cs → first ≡ (at + 1) + length (instances_of (instance wired (levels - 1)) (take i cs) (at + 1))
-    → (refusal : UnfoldRefusal) → IsCutShort wired (levels - 1) (get_or cs i 0) first refusal → IsCutShort wired levels k at refusal in
-    subst P (sym same) (short_below wired levels k at i first some)
+pub short_at : (callables : List Callable) (levels k at i first : ℕ) (calls : List ℕ) → calls ≡ (module_at callables k).calls → levels ≢ 0 → i < length calls
+    → first ≡ (at + 1) + length (instances_of (instance callables (levels - 1)) (take i calls) (at + 1))
+    → (refusal : UnfoldRefusal) → IsCutShort callables (levels - 1) (get_or calls i 0) first refusal → IsCutShort callables levels k at refusal
+short_at callables levels k at i first calls same some =
+    let P : List ℕ → Type 0 = λ cs. i < length cs → first ≡ (at + 1) + length (instances_of (instance callables (levels - 1)) (take i cs) (at + 1))
+    → (refusal : UnfoldRefusal) → IsCutShort callables (levels - 1) (get_or cs i 0) first refusal → IsCutShort callables levels k at refusal in
+    subst P (sym same) (short_below callables levels k at i first some)
 
 -- a node with the instances of all calls of its module is an instance
-pub whole_instance : (wired : List Wired) (levels k at i : ℕ) (m : Wired) (calls : List ℕ) → m ≡ module_at wired k → calls ≡ m.calls → levels ≢ 0 → length calls ≤ i
-    → (nodes : List Node) (parts : List ℕ) → nodes ≡ instances_of (instance wired (levels - 1)) (take i calls) (at + 1)
-    → parts ≡ firsts_of (instance wired (levels - 1)) (take i calls) (at + 1)
-    → node_of m k parts ∷ nodes ≡ instance wired levels k at
-whole_instance wired levels k at i m calls m_is calls_are some past nodes parts nodes_are parts_are =
-    let all : take i calls ≡ (module_at wired k).calls = take_all i calls past ∙ (calls_are ∙ ap (λ (n : Wired). n.calls) m_is) in
-    let below : ℕ → ℕ → List Node = instance wired (levels - 1) in
-    let ns : nodes ≡ instances_of below (module_at wired k).calls (at + 1) = nodes_are ∙ ap (λ cs. instances_of below cs (at + 1)) all in
-    let ps : parts ≡ firsts_of below (module_at wired k).calls (at + 1) = parts_are ∙ ap (λ cs. firsts_of below cs (at + 1)) all in
-    ap (λ (n : Wired). node_of n k parts ∷ nodes) m_is
-    ∙ (ap (λ (qs : List ℕ). node_of (module_at wired k) k qs ∷ nodes) ps
-    ∙ (ap (λ (rs : List Node). first_node wired below k at ∷ rs) ns ∙ sym (instance-down wired levels k at some)))
+pub whole_instance : (callables : List Callable) (levels k at i : ℕ) (m : Callable) (calls : List ℕ) → m ≡ module_at callables k → calls ≡ m.calls → levels ≢ 0 → length calls ≤ i
+    → (nodes : List Node) (parts : List ℕ) → nodes ≡ instances_of (instance callables (levels - 1)) (take i calls) (at + 1)
+    → parts ≡ firsts_of (instance callables (levels - 1)) (take i calls) (at + 1)
+    → node_of m k parts ∷ nodes ≡ instance callables levels k at
+whole_instance callables levels k at i m calls m_is calls_are some past nodes parts nodes_are parts_are =
+    let all : take i calls ≡ (module_at callables k).calls = take_all i calls past ∙ (calls_are ∙ ap (λ (n : Callable). n.calls) m_is) in
+    let below : ℕ → ℕ → List Node = instance callables (levels - 1) in
+    let ns : nodes ≡ instances_of below (module_at callables k).calls (at + 1) = nodes_are ∙ ap (λ cs. instances_of below cs (at + 1)) all in
+    let ps : parts ≡ firsts_of below (module_at callables k).calls (at + 1) = parts_are ∙ ap (λ cs. firsts_of below cs (at + 1)) all in
+    ap (λ (n : Callable). node_of n k parts ∷ nodes) m_is
+    ∙ (ap (λ (qs : List ℕ). node_of (module_at callables k) k qs ∷ nodes) ps
+    ∙ (ap (λ (rs : List Node). first_node callables below k at ∷ rs) ns ∙ sym (instance-down callables levels k at some)))

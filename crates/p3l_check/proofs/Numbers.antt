@@ -3,7 +3,7 @@ use Rattle.std.proofs.Common.{◌≡◌, ℕ, ◌+◌, ◌<◌, ◌^◌, Bool, t
 use Rattle.std.specs.Prelude.{bytes_eq}
 use Rattle.std.specs.Map.{lookup}
 use Rattle.p3l_skel.specs.declared.tree.ModuleInfo.{ModuleInfo}
-use Rattle.p3l_check.specs.declared.wired.Wired.{Wired}
+use Rattle.p3l_check.specs.declared.callables.Callable.{Callable}
 use Rattle.p3l_body.specs.declared.ports.Ports.{Ports}
 use Rattle.p3l_check.specs.declared.defined.Defined.{Defined}
 use Rattle.p3l_check.specs.Modules.{numbered}
@@ -26,14 +26,14 @@ same-longer : {A B : Type 0} (xs : List A) (ys : List B) (x : A) (y : B) → len
 same-longer xs ys x y same = length-append xs (x ∷ []) ∙ (ap (λ n. n + 1) same ∙ sym (length-append ys (y ∷ [])))
 
 -- the numbers of modules, and that of one more
-pub are-numbered-after : (numbers numbers' : List (List ℕ × ℕ)) (infos infos' : List ModuleInfo) (ports ports' : List Ports) (wired wired' : List Wired) (d : Defined) (n : ℕ) →
-    AreNumbered numbers infos ports wired → n ≡ length infos → length infos + 1 < 2 ^ 32 → numbers' ≡ numbers ++ (d.info.name, n) ∷ [] →
-    infos' ≡ infos ++ d.info ∷ [] → ports' ≡ ports ++ d.ports ∷ [] → wired' ≡ wired ++ d.wired ∷ [] → AreNumbered numbers' infos' ports' wired'
-are-numbered-after numbers numbers' infos infos' ports ports' wired wired' d n are next few number info port wire =
+pub are-numbered-after : (numbers numbers' : List (List ℕ × ℕ)) (infos infos' : List ModuleInfo) (ports ports' : List Ports) (callables callables' : List Callable) (d : Defined) (n : ℕ) →
+    AreNumbered numbers infos ports callables → n ≡ length infos → length infos + 1 < 2 ^ 32 → numbers' ≡ numbers ++ (d.info.name, n) ∷ [] →
+    infos' ≡ infos ++ d.info ∷ [] → ports' ≡ ports ++ d.ports ∷ [] → callables' ≡ callables ++ d.callables ∷ [] → AreNumbered numbers' infos' ports' callables'
+are-numbered-after numbers numbers' infos infos' ports ports' callables callables' d n are next few number info port wire =
     rw (info, port, wire) (record {
       numbers_are = number ∙ (ap (λ ns. ns ++ (d.info.name, n) ∷ []) are.numbers_are ∙ numbered-after infos d.info n next);
       ported = same-longer ports infos d.ports d.info are.ported;
-      wirings = same-longer wired infos d.wired d.info are.wirings;
+      wirings = same-longer callables infos d.callables d.info are.wirings;
       few = omega (arith, few, length-append infos (d.info ∷ []));
     })
 

@@ -19,7 +19,7 @@ use Rattle.p3l_skel.specs.declared.tree.Form.TheVariants as forms
 use Rattle.p3l_skel.specs.Tree.{sequential_row}
 use Rattle.p3l_skel.specs.Counts.{IsCountInRange, workers_of}
 use Rattle.p3l_skel.specs.Lawful.{kind_of}
-use Rattle.p3l_check.specs.Wiring.{module_at, IsSequentialModule, IsWiredForm}
+use Rattle.p3l_check.specs.Wiring.{module_at, IsSequentialModule, IsCallableForm}
 use Rattle.p3l_calls.specs.Port.{total, AreSized}
 use Rattle.p3l_calls.specs.Plain.{plain_call}
 use Rattle.p3l_calls.specs.Condition.{condition}
@@ -41,13 +41,13 @@ use Rattle.p3l_check.proofs.Ranges.{IsWithin, upto-within, reduce-within, turns-
 use Rattle.p3l_check.proofs.Called.{IsCalled, called-is, operator-is}
 use Rattle.p3l_check.proofs.Staged.{HavePorts, AreStaged, staged-are}
 
--- what a module is made of fits the modules before it, where it takes `ins` words and gives `outs`
+-- the skeleton of a module fits the modules before it, if it takes `ins` words and gives `outs`
 pub record IsFitting (modules : Modules) (kind : Kind) (ins outs : ℕ) (skeleton : Skeleton) : Type 0 where
   pub kind_is : kind_in kind ≡ kind_of skeleton.form
   pub workers : IfSome (workers_of skeleton.form) (IsCountInRange skeleton.form)
-  pub earlier : AllByRecursion (λ c. c < length modules.wired) skeleton.calls
-  pub form : IsWiredForm modules.wired skeleton.form ins outs skeleton.calls
-  pub sequential : skeleton.sequential ≡ sequential_row skeleton.form (module_at modules.wired (slice_index skeleton.calls 0)).sequential
+  pub earlier : AllByRecursion (λ c. c < length modules.callables) skeleton.calls
+  pub form : IsCallableForm modules.callables skeleton.form ins outs skeleton.calls
+  pub sequential : skeleton.sequential ≡ sequential_row skeleton.form (module_at modules.callables (slice_index skeleton.calls 0)).sequential
 
 some-of : (pos : Pos) (cs ds : List Call) → some_calls pos cs ≡ Ok ds → 1 ≤ length ds
 some-of pos [] ds e = absurd cc
@@ -75,13 +75,13 @@ total-length (var ∷ vars) h = omega arith
 
 -- each module takes words
 abbrev pub HaveIns : Modules → Type 0
-HaveIns modules = (k : ℕ) → k < length modules.wired → 1 ≤ (module_at modules.wired k).ins
+HaveIns modules = (k : ℕ) → k < length modules.callables → 1 ≤ (module_at modules.callables k).ins
 
 if_some_weaker : (P Q : ℕ → Type 0) → ((n : ℕ) → P n → Q n) → (o : Option ℕ) → IfSome o P → IfSome o Q
 if_some_weaker P Q f None h = tt
 if_some_weaker P Q f (Some n) h = f n h
 
-module _ (before : Before) (same : length before.modules.wired ≡ length before.modules.infos) (have : HavePorts before.modules)
+module _ (before : Before) (same : length before.modules.callables ≡ length before.modules.infos) (have : HavePorts before.modules)
     (filled : HaveIns before.modules) (m : ModuleTree) (ports : Ports) where
   stages-are : (in_process : Bool) (ks : List ℕ) → stages in_process before m ports ≡ Ok ks → AreStaged in_process before.modules (total ports.ins) (total ports.outs) ks
   stages-are in_process ks e =
@@ -96,7 +96,7 @@ module _ (before : Before) (same : length before.modules.wired ≡ length before
         kind_is = refl;
         workers = tt;
         earlier = are.inside;
-        form = (are.some, are.chain, All-from_recursion (IsSequentialModule before.modules.wired) ks (are.sequential refl));
+        form = (are.some, are.chain, All-from_recursion (IsSequentialModule before.modules.callables) ks (are.sequential refl));
         sequential = refl;
       }
 
@@ -107,13 +107,13 @@ module _ (before : Before) (same : length before.modules.wired ≡ length before
       record { kind_is = refl; workers = tt; earlier = are.inside; form = (are.some, are.chain); sequential = refl }
 
   -- the words of a callee
-  callee-words : (k ins outs : ℕ) → k < length before.modules.wired → HasTotals (ports_at before.modules k) ins outs →
-      ((module_at before.modules.wired k).ins ≡ ins) × ((module_at before.modules.wired k).outs ≡ outs)
+  callee-words : (k ins outs : ℕ) → k < length before.modules.callables → HasTotals (ports_at before.modules k) ins outs →
+      ((module_at before.modules.callables k).ins ≡ ins) × ((module_at before.modules.callables k).outs ≡ outs)
   callee-words k ins outs inside totals =
       let own = have k inside in (sym own.takes ∙ totals.takes, sym own.gives ∙ totals.gives)
 
   plain-words : (call : Call) (k : ℕ) (u : Unit {0}) → IsCalled false before.modules call k → plain_call ports.ins ports.outs (ports_at before.modules k) call ≡ Ok u →
-      ((module_at before.modules.wired k).ins ≡ total ports.ins) × ((module_at before.modules.wired k).outs ≡ total ports.outs)
+      ((module_at before.modules.callables k).ins ≡ total ports.ins) × ((module_at before.modules.callables k).outs ≡ total ports.outs)
   plain-words call k u is e =
       callee-words k (total ports.ins) (total ports.outs) is.runs.inside (plain_call-totals ports.ins ports.outs (ports_at before.modules k) call u is.arity.ins is.arity.outs e)
 
@@ -143,7 +143,7 @@ module _ (before : Before) (same : length before.modules.wired ≡ length before
       let callee = given-taken (called false before call.0) _ skeleton call.2 in
       let cut = given-taken (cut_of ports (ports_at before.modules callee.0) call.0) _ skeleton callee.2 in
       let workers = given-taken (map_workers (element_count cut.0) before.constants m.clauses.workers) _ skeleton cut.2 in
-      let made : Skeleton = record { form = forms.Map workers.0 cut.0; calls = callee.0 ∷ []; sequential = (module_at before.modules.wired callee.0).sequential } in
+      let made : Skeleton = record { form = forms.Map workers.0 cut.0; calls = callee.0 ∷ []; sequential = (module_at before.modules.callables callee.0).sequential } in
       let is : made ≡ skeleton = cc (workers.2) in
       let found = called-is false before call.0 callee.0 same callee.1 in
       let own = have callee.0 found.runs.inside in
@@ -176,7 +176,7 @@ module _ (before : Before) (same : length before.modules.wired ≡ length before
       let made : Skeleton = record {
         form = forms.Reduce workers.0 elements.0.len elements.0.elem;
         calls = callee.0 ∷ [];
-        sequential = (module_at before.modules.wired callee.0).sequential;
+        sequential = (module_at before.modules.callables callee.0).sequential;
       } in
       let is : made ≡ skeleton = cc (workers.2) in
       let runs = operator-is before call.0 callee.0 same callee.1 in

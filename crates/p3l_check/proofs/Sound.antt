@@ -21,7 +21,7 @@ use Rattle.p3l_body.specs.declared.ports.Ports.{Ports}
 use Rattle.p3l_body.specs.Scope.{Names, named, declared_one, declared}
 use Rattle.p3l_body.specs.Seq.{ports_of}
 use Rattle.p3l_skel.specs.Lawful.{may_rescue, HasLawfulRescue}
-use Rattle.p3l_check.specs.declared.wired.Wired.{Wired}
+use Rattle.p3l_check.specs.declared.callables.Callable.{Callable}
 use Rattle.p3l_check.specs.Wiring.{module_at}
 use Rattle.p3l_calls.specs.Port.{total, AreSized}
 use Rattle.p3l_calls.proofs.Kept.{given-taken, kept-false}
@@ -34,43 +34,43 @@ use Rattle.p3l_check.specs.Environment.{Before}
 use Rattle.p3l_check.specs.Clauses.{no_rescue, rescue_in}
 use Rattle.p3l_check.specs.Skeleton.{skeleton_of}
 use Rattle.p3l_check.specs.Entry.{Checked, none_checked, new_name, ports_in, body_in, kind_in, info_of, defined_as, defined_in, before_in, checked_entry, checked_entries}
-use Rattle.p3l_check.specs.Wired.{AreWired}
-use Rattle.p3l_check.proofs.Kept.{IsNext, wired-more, none-wired, module-kept, module-last}
+use Rattle.p3l_check.specs.Callables.{AreCallables}
+use Rattle.p3l_check.proofs.Kept.{IsNext, callables-more, none-callables, module-kept, module-last}
 use Rattle.p3l_check.proofs.Staged.{HavePorts}
 use Rattle.p3l_check.proofs.Skeletons.{skeleton-fits}
 
 -- modules that fit those that they call, with their ports
 pub record AreSound (modules : Modules) : Type 0 where
-  pub wiring : AreWired modules.infos modules.wired
+  pub wiring : AreCallables modules.infos modules.callables
   pub ported : length modules.ports ≡ length modules.infos
   pub have : HavePorts modules
 
 pub none-sound : AreSound no_modules
-none-sound = record { wiring = none-wired; ported = refl; have = λ k inside. absurd (omega (arith, inside)) }
+none-sound = record { wiring = none-callables; ported = refl; have = λ k inside. absurd (omega (arith, inside)) }
 
 -- a module that may be defined after others
 pub record MayFollow (modules : Modules) (d : Defined) : Type 0 where
   pub rescue : HasLawfulRescue d.info
-  pub next : IsNext modules.wired d.info.kind d.wired
-  pub have : HasTotals d.ports d.wired.ins d.wired.outs
+  pub next : IsNext modules.callables d.info.kind d.callables
+  pub have : HasTotals d.ports d.callables.ins d.callables.outs
 
-totals-same : (a b : Ports) (v w : Wired) → a ≡ b → v ≡ w → HasTotals a v.ins v.outs → HasTotals b w.ins w.outs
-totals-same a b v w p q h = subst (λ x. HasTotals x w.ins w.outs) p (subst (λ (y : Wired). HasTotals a y.ins y.outs) q h)
+totals-same : (a b : Ports) (v w : Callable) → a ≡ b → v ≡ w → HasTotals a v.ins v.outs → HasTotals b w.ins w.outs
+totals-same a b v w p q h = subst (λ x. HasTotals x w.ins w.outs) p (subst (λ (y : Callable). HasTotals a y.ins y.outs) q h)
 
 pub sound-more : (modules : Modules) (d : Defined) → AreSound modules → MayFollow modules d → AreSound (with_module modules d)
 sound-more modules d sound follows = record {
-  wiring = wired-more modules.infos modules.wired d.info d.wired sound.wiring follows.rescue follows.next;
+  wiring = callables-more modules.infos modules.callables d.info d.callables sound.wiring follows.rescue follows.next;
   ported = length-append modules.ports (d.ports ∷ []) ∙ (ap (λ n. n + 1) sound.ported ∙ sym (length-append modules.infos (d.info ∷ [])));
   have = λ k inside. ⊎_elim
       (λ h. let there : k < length modules.ports = omega (arith, sound.ported, sound.wiring.count) in
-      totals-same _ _ _ _ (sym (get_or_append_left modules.ports (d.ports ∷ []) no_ports k there)) (sym (module-kept modules.wired d.wired k h)) (sound.have k h))
-      (λ h. let last : length modules.wired ≡ k = omega (arith, simp length-append at inside) in
-      let same : length modules.ports ≡ length modules.wired = sound.ported ∙ sym sound.wiring.count in
-      let own : ports_at (with_module modules d) (length modules.wired) ≡ d.ports =
+      totals-same _ _ _ _ (sym (get_or_append_left modules.ports (d.ports ∷ []) no_ports k there)) (sym (module-kept modules.callables d.callables k h)) (sound.have k h))
+      (λ h. let last : length modules.callables ≡ k = omega (arith, simp length-append at inside) in
+      let same : length modules.ports ≡ length modules.callables = sound.ported ∙ sym sound.wiring.count in
+      let own : ports_at (with_module modules d) (length modules.callables) ≡ d.ports =
       ap (λ n. ports_at (with_module modules d) n) (sym same) ∙ get_or-append_seam modules.ports d.ports [] no_ports in
-      subst (λ n. HasTotals (ports_at (with_module modules d) n) (module_at (modules.wired ++ d.wired ∷ []) n).ins (module_at (modules.wired ++ d.wired ∷ []) n).outs) last
-      (totals-same _ _ _ _ (sym own) (sym (module-last modules.wired d.wired)) follows.have))
-      (cases_lt k (length modules.wired));
+      subst (λ n. HasTotals (ports_at (with_module modules d) n) (module_at (modules.callables ++ d.callables ∷ []) n).ins (module_at (modules.callables ++ d.callables ∷ []) n).outs) last
+      (totals-same _ _ _ _ (sym own) (sym (module-last modules.callables d.callables)) follows.have))
+      (cases_lt k (length modules.callables));
 }
 
 -- as many variables as declarations
@@ -203,5 +203,5 @@ entries-sound checked (entry ∷ entries) all sound e =
     entries-sound next.0 entries all (entry-sound checked (defines (entry ∷ entries)) entry next.0 sound next.1) next.2
 
 -- the modules of a whole program
-pub program-wired : (entries : List EntryTree) (all : Checked) → checked_entries none_checked entries ≡ Ok all → AreWired all.modules.infos all.modules.wired
-program-wired entries all e = (entries-sound none_checked entries all none-sound e).wiring
+pub program-callables : (entries : List EntryTree) (all : Checked) → checked_entries none_checked entries ≡ Ok all → AreCallables all.modules.infos all.modules.callables
+program-callables entries all e = (entries-sound none_checked entries all none-sound e).wiring

@@ -20,19 +20,19 @@ use Rattle.p3l_check.proofs.Called.{IsCalled, called-is}
 
 -- the ports of each module have its words
 abbrev pub HavePorts : Modules → Type 0
-HavePorts modules = (k : ℕ) → k < length modules.wired → HasTotals (ports_at modules k) (module_at modules.wired k).ins (module_at modules.wired k).outs
+HavePorts modules = (k : ℕ) → k < length modules.callables → HasTotals (ports_at modules k) (module_at modules.callables k).ins (module_at modules.callables k).outs
 
 -- the callees of calls that are handed `taken` words
 pub record AreStaged (in_process : Bool) (modules : Modules) (taken filled : ℕ) (ks : List ℕ) : Type 0 where
   pub some : 1 ≤ length ks
-  pub inside : AllByRecursion (λ c. c < length modules.wired) ks
-  pub chain : IsCallChain modules.wired taken filled ks
-  pub sequential : in_process ≡ true → AllByRecursion (IsSequentialModule modules.wired) ks
+  pub inside : AllByRecursion (λ c. c < length modules.callables) ks
+  pub chain : IsCallChain modules.callables taken filled ks
+  pub sequential : in_process ≡ true → AllByRecursion (IsSequentialModule modules.callables) ks
 
-module _ (in_process : Bool) (before : Before) (outs : List Var) (same : length before.modules.wired ≡ length before.modules.infos) (have : HavePorts before.modules) where
+module _ (in_process : Bool) (before : Before) (outs : List Var) (same : length before.modules.callables ≡ length before.modules.infos) (have : HavePorts before.modules) where
   -- the words of a callee that takes and gives these
   words-are : (call : Call) (k ins gives : ℕ) → IsCalled in_process before.modules call k → HasTotals (ports_at before.modules k) ins gives →
-      ((module_at before.modules.wired k).ins ≡ ins) × ((module_at before.modules.wired k).outs ≡ gives)
+      ((module_at before.modules.callables k).ins ≡ ins) × ((module_at before.modules.callables k).outs ≡ gives)
   words-are call k ins gives is totals =
       let own = have k is.runs.inside in (sym own.takes ∙ totals.takes, sym own.gives ∙ totals.gives)
 
@@ -55,7 +55,7 @@ module _ (in_process : Bool) (before : Before) (outs : List Var) (same : length 
       record {
         some = omega arith;
         inside = (is.runs.inside, rest.inside);
-        chain = (words.0, subst (λ n. IsCallChain before.modules.wired n (total outs) ks) (sym words.1) rest.chain);
+        chain = (words.0, subst (λ n. IsCallChain before.modules.callables n (total outs) ks) (sym words.1) rest.chain);
         sequential = λ h. (is.runs.sequential h, rest.sequential h);
       }
 

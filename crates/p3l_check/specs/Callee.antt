@@ -20,7 +20,7 @@ callee_of before at =
 
 -- in one process only sequential modules run
 abbrev pub process_rule : Bool → Modules → ℕ → Spot → Verdict
-process_rule in_process modules k at = broken_if (in_process && not (module_at modules.wired k).sequential) NotInComp at.pos
+process_rule in_process modules k at = broken_if (in_process && not (module_at modules.callables k).sequential) NotInComp at.pos
 
 -- a call has as many ins and outs as its callee
 abbrev pub arity_rule : Ports → Call → Verdict

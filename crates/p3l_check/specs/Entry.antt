@@ -102,7 +102,7 @@ abbrev pub defined_as : ModuleInfo → Ports → Skeleton → Defined
 defined_as info ports skeleton = record {
   info = info;
   ports = ports;
-  wired = record {
+  callables = record {
     form = skeleton.form;
     ins = total ports.ins;
     outs = total ports.outs;

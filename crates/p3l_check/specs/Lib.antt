@@ -4,7 +4,7 @@ pub mod Refusing
 pub mod Levels
 pub mod Modules
 pub mod Numbered
-pub mod Wired
+pub mod Callables
 pub mod Places
 pub mod Environment
 pub mod Clauses

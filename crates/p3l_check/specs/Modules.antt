@@ -2,7 +2,7 @@
 use Rattle.std.specs.Prelude.{ℕ, ◌+◌, List, [], ◌∷◌, ◌++◌, Option, slice_index_or, bytes_eq}
 use Rattle.std.specs.Map.{lookup}
 use Rattle.p3l_skel.specs.declared.tree.ModuleInfo.{ModuleInfo}
-use Rattle.p3l_check.specs.declared.wired.Wired.{Wired}
+use Rattle.p3l_check.specs.declared.callables.Callable.{Callable}
 use Rattle.p3l_body.specs.declared.ports.Ports.{Ports}
 use Rattle.p3l_check.specs.declared.defined.Defined.{Defined}
 
@@ -11,10 +11,10 @@ use Rattle.p3l_check.specs.declared.defined.Defined.{Defined}
 pub record Modules : Type 0 where
   pub infos : List ModuleInfo
   pub ports : List Ports
-  pub wired : List Wired
+  pub callables : List Callable
 
 abbrev pub no_modules : Modules
-no_modules = record { infos = []; ports = []; wired = [] }
+no_modules = record { infos = []; ports = []; callables = [] }
 
 -- the names of modules with their numbers, the first of which is k
 abbrev pub numbered : ℕ → List ModuleInfo → List (List ℕ × ℕ)
@@ -38,5 +38,5 @@ abbrev pub with_module : Modules → Defined → Modules
 with_module modules defined = record {
   infos = modules.infos ++ defined.info ∷ [];
   ports = modules.ports ++ defined.ports ∷ [];
-  wired = modules.wired ++ defined.wired ∷ [];
+  callables = modules.callables ++ defined.callables ∷ [];
 }

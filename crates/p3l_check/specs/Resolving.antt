@@ -53,9 +53,9 @@ limit_of at limit.NoMemory = NoMemory
 abbrev pub limits_rule : Pos → Modules → ℕ → Verdict
 limits_rule at modules root =
     first_of (
-    broken_if (not (is_nested_within modules.wired nesting root)) TooDeep at
-    ∷ (broken_if (nat_lt most_nodes (length (instance modules.wired nesting root 0))) TooManyInstances at
-    ∷ (broken_if (not (is_light (tree_of modules.infos modules.wired root))) TooHeavy at
+    broken_if (not (is_nested_within modules.callables nesting root)) TooDeep at
+    ∷ (broken_if (nat_lt most_nodes (length (instance modules.callables nesting root 0))) TooManyInstances at
+    ∷ (broken_if (not (is_light (tree_of modules.infos modules.callables root))) TooHeavy at
     ∷ [])))
 
 -- a program that keeps the rules: its tree, and the bodies of its `seq` modules
@@ -70,7 +70,7 @@ resolved_tree (Err refusal) = Err refusal
 
 abbrev pub resolved_as : Checked → ℕ → ResolvedTree
 resolved_as checked root = record {
-  tree = tree_of checked.modules.infos checked.modules.wired root;
+  tree = tree_of checked.modules.infos checked.modules.callables root;
   seqs = checked.seqs;
 }
 

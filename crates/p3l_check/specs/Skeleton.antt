@@ -67,7 +67,7 @@ map_of before m ports =
     (λ workers. Ok (record {
       form = forms.Map workers cut;
       calls = k ∷ [];
-      sequential = (module_at before.modules.wired k).sequential;
+      sequential = (module_at before.modules.callables k).sequential;
     })))))
 
 -- the call of a reduce, and then its workers
@@ -80,7 +80,7 @@ reduce_of before m ports =
     (λ workers. Ok (record {
       form = forms.Reduce workers elements.len elements.elem;
       calls = k ∷ [];
-      sequential = (module_at before.modules.wired k).sequential;
+      sequential = (module_at before.modules.callables k).sequential;
     })))))
 
 -- variables have equal sizes in order

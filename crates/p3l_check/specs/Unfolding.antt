@@ -4,7 +4,7 @@ use Rattle.p3l_skel.specs.declared.tree.ModuleInfo.{ModuleInfo}
 use Rattle.p3l_skel.specs.declared.tree.Node.{Node}
 use Rattle.p3l_skel.specs.declared.tree.Tree.{Tree}
 use Rattle.p3l_skel.specs.Tree.{by_parts, nesting}
-use Rattle.p3l_check.specs.declared.wired.Wired.{Wired}
+use Rattle.p3l_check.specs.declared.callables.Callable.{Callable}
 use Rattle.p3l_check.specs.Wiring.{module_at}
 
 -- the nodes of instances of these modules one after another, where the first node has the number
@@ -19,18 +19,18 @@ firsts_of below [] at = []
 firsts_of below (c ∷ cs) at = at ∷ firsts_of below cs (at + length (below c at))
 
 -- a node of a module, with these parts
-abbrev pub node_of : Wired → ℕ → List ℕ → Node
+abbrev pub node_of : Callable → ℕ → List ℕ → Node
 node_of m k parts = record { form = m.form; «module» = k; ins = m.ins; outs = m.outs; parts = parts }
 
 -- the first node of an instance of a module, whose number is `at`
-abbrev pub first_node : List Wired → (ℕ → ℕ → List Node) → ℕ → ℕ → Node
-first_node wired below k at = node_of (module_at wired k) k (firsts_of below (module_at wired k).calls (at + 1))
+abbrev pub first_node : List Callable → (ℕ → ℕ → List Node) → ℕ → ℕ → Node
+first_node callables below k at = node_of (module_at callables k) k (firsts_of below (module_at callables k).calls (at + 1))
 
 -- the nodes of an instance of a module whose first node has the number `at`, down to a depth
-unfoldable pub instance : List Wired → ℕ → ℕ → ℕ → List Node
-instance wired =
-    by_parts (λ below k at. first_node wired below k at ∷ instances_of below (module_at wired k).calls (at + 1)) (λ k at. [])
+unfoldable pub instance : List Callable → ℕ → ℕ → ℕ → List Node
+instance callables =
+    by_parts (λ below k at. first_node callables below k at ∷ instances_of below (module_at callables k).calls (at + 1)) (λ k at. [])
 
 -- the tree of the module `root`
-abbrev pub tree_of : List ModuleInfo → List Wired → ℕ → Tree
-tree_of infos wired root = record { nodes = instance wired nesting root 0; modules = infos }
+abbrev pub tree_of : List ModuleInfo → List Callable → ℕ → Tree
+tree_of infos callables root = record { nodes = instance callables nesting root 0; modules = infos }

@@ -9,45 +9,45 @@ use Rattle.p3l_skel.specs.declared.tree.ModuleInfo.{ModuleInfo}
 use Rattle.p3l_skel.specs.Tree.{sequential_row}
 use Rattle.p3l_skel.specs.Counts.{IsCountInRange, workers_of}
 use Rattle.p3l_skel.specs.Lawful.{IsSize, HasSizes, HasOnePart, HasTwoParts, HasLoopLimits, HasKind, HasLawfulRescue, kind_of}
-use Rattle.p3l_check.specs.declared.wired.Wired.{Wired}
+use Rattle.p3l_check.specs.declared.callables.Callable.{Callable}
 
 -- the module of a number past the modules: a pipe of nothing
-abbrev pub no_module : Wired
+abbrev pub no_module : Callable
 no_module = record { form = Pipe; ins = 0; outs = 0; calls = []; sequential = false }
 
 -- the module of this number
-abbrev pub module_at : List Wired → ℕ → Wired
-module_at wired k = slice_index_or wired k no_module
+abbrev pub module_at : List Callable → ℕ → Callable
+module_at callables k = slice_index_or callables k no_module
 
 -- a module takes `ins` words and gives `outs`
-pub record TakesAndGives (callee : Wired) (ins outs : ℕ) : Type 0 where
+pub record TakesAndGives (callee : Callable) (ins outs : ℕ) : Type 0 where
   pub takes : callee.ins ≡ ins
   pub gives : callee.outs ≡ outs
 
 -- each module gives what the next takes: the first takes `ins` words, and the last gives `outs`
-abbrev pub IsCallChain : List Wired → ℕ → ℕ → List ℕ → Type 0
-IsCallChain wired ins outs [] = ins ≡ outs
-IsCallChain wired ins outs (c ∷ cs) = ((module_at wired c).ins ≡ ins) × IsCallChain wired (module_at wired c).outs outs cs
+abbrev pub IsCallChain : List Callable → ℕ → ℕ → List ℕ → Type 0
+IsCallChain callables ins outs [] = ins ≡ outs
+IsCallChain callables ins outs (c ∷ cs) = ((module_at callables c).ins ≡ ins) × IsCallChain callables (module_at callables c).outs outs cs
 
 -- a module is sequential
-abbrev pub IsSequentialModule : List Wired → ℕ → Type 0
-IsSequentialModule wired c = IsTrue (module_at wired c).sequential
+abbrev pub IsSequentialModule : List Callable → ℕ → Type 0
+IsSequentialModule callables c = IsTrue (module_at callables c).sequential
 
 -- the numbers of a map fit it and its callee
-pub record IsWiredMap (cut : Cut) (ins outs : ℕ) (callee : Wired) : Type 0 where
+pub record IsCallableMap (cut : Cut) (ins outs : ℕ) (callee : Callable) : Type 0 where
   pub in_sizes : All HasSizes cut.ins
   pub out_sizes : All HasSizes cut.outs
   pub cuts : IsLawfulCut cut ins outs callee.ins callee.outs
 
 -- the numbers of a reduce fit it and its operator
-pub record IsWiredReduce (len elem ins outs : ℕ) (callee : Wired) : Type 0 where
+pub record IsCallableReduce (len elem ins outs : ℕ) (callee : Callable) : Type 0 where
   pub elements : ins ≡ len * elem
   pub result : outs ≡ elem
   pub operator : TakesAndGives callee (2 * elem) elem
   pub sequential : IsTrue callee.sequential
 
 -- the numbers of a loop fit it, its body and its condition
-pub record IsWiredLoop (turns tokens ins outs : ℕ) (body condition : Wired) : Type 0 where
+pub record IsCallableLoop (turns tokens ins outs : ℕ) (body condition : Callable) : Type 0 where
   pub limits : HasLoopLimits turns tokens
   pub same_words : ins ≡ outs
   pub turned : TakesAndGives body ins outs
@@ -55,32 +55,32 @@ pub record IsWiredLoop (turns tokens ins outs : ℕ) (body condition : Wired) : 
   pub sequential : IsTrue condition.sequential
 
 -- the rules of the calls of a module of a form
-abbrev pub IsWiredForm : List Wired → Form → ℕ → ℕ → List ℕ → Type 0
-IsWiredForm wired Seq ins outs calls = calls ≡ []
-IsWiredForm wired Comp ins outs calls = (1 ≤ length calls) × IsCallChain wired ins outs calls × All (IsSequentialModule wired) calls
-IsWiredForm wired Pipe ins outs calls = (1 ≤ length calls) × IsCallChain wired ins outs calls
-IsWiredForm wired (Farm w) ins outs calls = HasOnePart (λ c. TakesAndGives (module_at wired c) ins outs) calls
-IsWiredForm wired (Map w cut) ins outs calls = HasOnePart (λ c. IsWiredMap cut ins outs (module_at wired c)) calls
-IsWiredForm wired (Reduce w len elem) ins outs calls = HasOnePart (λ c. IsWiredReduce len elem ins outs (module_at wired c)) calls
-IsWiredForm wired (Loop turns tokens) ins outs calls =
-    HasTwoParts (λ c d. IsWiredLoop turns tokens ins outs (module_at wired c) (module_at wired d)) calls
+abbrev pub IsCallableForm : List Callable → Form → ℕ → ℕ → List ℕ → Type 0
+IsCallableForm callables Seq ins outs calls = calls ≡ []
+IsCallableForm callables Comp ins outs calls = (1 ≤ length calls) × IsCallChain callables ins outs calls × All (IsSequentialModule callables) calls
+IsCallableForm callables Pipe ins outs calls = (1 ≤ length calls) × IsCallChain callables ins outs calls
+IsCallableForm callables (Farm w) ins outs calls = HasOnePart (λ c. TakesAndGives (module_at callables c) ins outs) calls
+IsCallableForm callables (Map w cut) ins outs calls = HasOnePart (λ c. IsCallableMap cut ins outs (module_at callables c)) calls
+IsCallableForm callables (Reduce w len elem) ins outs calls = HasOnePart (λ c. IsCallableReduce len elem ins outs (module_at callables c)) calls
+IsCallableForm callables (Loop turns tokens) ins outs calls =
+    HasTwoParts (λ c d. IsCallableLoop turns tokens ins outs (module_at callables c) (module_at callables d)) calls
 
 -- module k, whose name and skeleton are in `infos`, fits the modules before it that it calls
-pub record IsWiredModule (infos : List ModuleInfo) (wired : List Wired) (k : ℕ) (m : Wired) : Type 0 where
+pub record IsCallableModule (infos : List ModuleInfo) (callables : List Callable) (k : ℕ) (m : Callable) : Type 0 where
   pub kind : HasKind infos k (kind_of m.form)
   pub ins : IsSize m.ins
   pub outs : IsSize m.outs
   -- the `workers` clause
   pub workers : IfSome (workers_of m.form) (IsCountInRange m.form)
   pub earlier : All (λ c. c < k) m.calls
-  pub form : IsWiredForm wired m.form m.ins m.outs m.calls
+  pub form : IsCallableForm callables m.form m.ins m.outs m.calls
   -- a seq, a comp, or a map or reduce of a sequential module
-  pub sequential : m.sequential ≡ sequential_row m.form (module_at wired (slice_index m.calls 0)).sequential
+  pub sequential : m.sequential ≡ sequential_row m.form (module_at callables (slice_index m.calls 0)).sequential
 
 -- modules in the order of the source, each of which fits those that it calls, and has a rescue
 -- number only where its skeleton allows one
-pub record IsWiring (infos : List ModuleInfo) (wired : List Wired) : Type 0 where
-  pub count : length wired ≡ length infos
+pub record IsWiring (infos : List ModuleInfo) (callables : List Callable) : Type 0 where
+  pub count : length callables ≡ length infos
   pub few : length infos < 2 ^ 32
   pub rescues : All HasLawfulRescue infos
-  pub each : (k : ℕ) → k < length wired → IsWiredModule infos wired k (module_at wired k)
+  pub each : (k : ℕ) → k < length callables → IsCallableModule infos callables k (module_at callables k)

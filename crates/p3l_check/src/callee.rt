@@ -12,7 +12,7 @@ use p3l_body::Ports;
 /// The number of the earlier module that a call names.
 fn callee_of(env: Environment<'_>, at: &Spot) -> Result<u32, SourceRefusal>
     ensures callee { result ≡ callee_of (before_of env.entry) at.now }
-    ensures within { IfOk result (λ k. k < length (before_of env.entry).modules.wired) }
+    ensures within { IfOk result (λ k. k < length (before_of env.entry).modules.callables) }
 {
     if let Some(number) = env.modules.number(&at.name) {
         return Ok(number);
@@ -32,7 +32,7 @@ fn check_process(
     k: u32,
     at: &Spot,
 ) -> Result<(), SourceRefusal>
-    requires { k < length modules.now.wired }
+    requires { k < length modules.now.callables }
     ensures { result ≡ process_rule in_process modules.now k at.now }
 {
     if in_process && !modules.is_sequential(k) {
@@ -90,7 +90,7 @@ fn runnable_callee(
     call: &Call,
 ) -> Result<u32, SourceRefusal>
     ensures callee { result ≡ runnable_callee in_process (before_of env.entry) call.now }
-    ensures within { IfOk result (λ k. k < length (before_of env.entry).modules.wired) }
+    ensures within { IfOk result (λ k. k < length (before_of env.entry).modules.callables) }
 {
     let k = callee_of(env, &call.at)?;
     check_process(in_process, env.modules, k, &call.at)?;
@@ -100,7 +100,7 @@ fn runnable_callee(
 /// The number of the module that a call names; all is checked but the arguments.
 pub fn called(in_process: bool, env: Environment<'_>, call: &Call) -> Result<u32, SourceRefusal>
     ensures callee { result ≡ called in_process (before_of env.entry) call.now }
-    ensures within { IfOk result (λ k. k < length (before_of env.entry).modules.wired) }
+    ensures within { IfOk result (λ k. k < length (before_of env.entry).modules.callables) }
 {
     let k = runnable_callee(in_process, env, call)?;
     check_arity(env.modules.ports(k), call)?;
@@ -110,7 +110,7 @@ pub fn called(in_process: bool, env: Environment<'_>, call: &Call) -> Result<u32
 /// The number of a reduce's operator; all is checked but the arguments.
 pub fn operator_called(env: Environment<'_>, call: &Call) -> Result<u32, SourceRefusal>
     ensures callee { result ≡ operator_called (before_of env.entry) call.now }
-    ensures within { IfOk result (λ k. k < length (before_of env.entry).modules.wired) }
+    ensures within { IfOk result (λ k. k < length (before_of env.entry).modules.callables) }
 {
     let k = runnable_callee(true, env, call)?;
     check_operator(env.modules.ports(k), &call.at)?;

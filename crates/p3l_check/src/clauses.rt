@@ -46,7 +46,7 @@ pub fn map_workers(
     workers_upto(elements.min(MOST_WORKERS as u64) as u32, consts, clause)
 }
 
-/// True if a reduce may have this number of workers, whatever its length.
+/// True if a reduce of any length may have this number of workers.
 fn is_power(workers: u32) -> bool
     ensures { result ≡ is_power workers }
 {

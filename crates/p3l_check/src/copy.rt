@@ -1,4 +1,4 @@
-// Copies of forms, of which each instance of a module has one.
+// Copies of forms, one for each instance of a module.
 
 ghost use Rattle.std.specs.Prelude.{◌≡◌};
 ghost use Rattle.p3l_base.specs.Memory.{IfGiven};

@@ -1,6 +1,6 @@
 // Modules as the entries after them see them.
 
-use crate::Wired;
+use crate::Callable;
 use p3l_body::Ports;
 use p3l_skel::ModuleInfo;
 
@@ -9,5 +9,5 @@ use p3l_skel::ModuleInfo;
 pub struct Defined {
     pub info: ModuleInfo,
     pub ports: Ports,
-    pub wired: Wired,
+    pub callables: Callable,
 }

@@ -2,6 +2,7 @@
 //! has an instance of a module for each call, unfolded along the calls.
 #![tactic(auto)]
 
+pub mod callables;
 pub mod callee;
 pub mod clauses;
 mod copy;
@@ -16,8 +17,8 @@ pub mod progress;
 pub mod resolving;
 pub mod skeleton;
 pub mod unfolding;
-pub mod wired;
 
+pub use callables::Callable;
 pub use defined::Defined;
 pub use environment::Environment;
 pub use modules::Modules;
@@ -26,4 +27,3 @@ pub use progress::Progress;
 pub use resolving::{Resolved, resolve};
 pub use skeleton::Skeleton;
 pub use unfolding::{UnfoldRefusal, unfold};
-pub use wired::Wired;

@@ -4,12 +4,12 @@ ghost use Rattle.std.specs.Prelude.{◌≡◌, ◌+◌, ◌<◌, ◌^◌, [], �
 ghost use Rattle.p3l_base.specs.Memory.{IfGiven};
 ghost use Rattle.std.specs.Map.{lookup};
 ghost use Rattle.p3l_check.specs.Modules.{no_modules, number_of, ports_at, with_module};
-ghost use Rattle.p3l_check.specs.Wired.{AreWired};
+ghost use Rattle.p3l_check.specs.Callables.{AreCallables};
 ghost use Rattle.p3l_check.specs.Wiring.{module_at};
 ghost use Rattle.p3l_check.specs.Refusing.{IsUnfolded, IsRefused};
 
 use crate::defined::Defined;
-use crate::{UnfoldRefusal, Wired, unfold};
+use crate::{Callable, UnfoldRefusal, unfold};
 use indexmap::IndexMap;
 use p3l_base::{List, Name, NoMemory};
 use p3l_body::Ports;
@@ -24,7 +24,7 @@ pub struct Modules {
     numbers: IndexMap<Name, u32>,
     infos: List<ModuleInfo>,
     ports: List<Ports>,
-    wired: List<Wired>,
+    callables: List<Callable>,
 }
 
 impl Model for Modules {
@@ -33,9 +33,9 @@ impl Model for Modules {
 
     ghost Value = { modules.Modules };
 
-    ghost view = { λ it. record { infos = it.infos; ports = it.ports; wired = it.wired } };
+    ghost view = { λ it. record { infos = it.infos; ports = it.ports; callables = it.callables } };
 
-    ghost invariant = { λ it. AreNumbered it.numbers.entries it.infos it.ports it.wired };
+    ghost invariant = { λ it. AreNumbered it.numbers.entries it.infos it.ports it.callables };
 }
 
 /// Numbers of names, and that of a name that has none yet.
@@ -58,16 +58,16 @@ fn add_number(
 fn add_module(
     infos: &mut List<ModuleInfo>,
     ports: &mut List<Ports>,
-    wired: &mut List<Wired>,
+    callables: &mut List<Callable>,
     defined: Defined,
 ) -> Result<(), NoMemory>
     ensures infos { IfGiven result (λ x. infos.new ≡ infos.old ++ defined.info ∷ []) }
     ensures ports { IfOk result (λ x. ports.new ≡ ports.old ++ defined.ports ∷ []) }
-    ensures wired { IfOk result (λ x. wired.new ≡ wired.old ++ defined.wired ∷ []) }
+    ensures callables { IfOk result (λ x. callables.new ≡ callables.old ++ defined.callables ∷ []) }
 {
     infos.push(defined.info)?;
     ports.push(defined.ports)?;
-    wired.push(defined.wired)?;
+    callables.push(defined.callables)?;
     Ok(())
 }
 
@@ -80,7 +80,7 @@ impl Modules {
             numbers: IndexMap::new(alloc),
             infos: List::new(alloc),
             ports: List::new(alloc),
-            wired: List::new(alloc),
+            callables: List::new(alloc),
         }
     }
 
@@ -94,14 +94,14 @@ impl Modules {
     /// The number of the module of a name.
     pub fn number(&self, name: &Name) -> Option<u32>
         ensures number { result ≡ number_of self.now name.now }
-        ensures within { IfSome result (λ k. k < length self.now.wired) }
+        ensures within { IfSome result (λ k. k < length self.now.callables) }
     {
         self.numbers.get(name).copied()
     }
 
     /// The ports of a module.
     pub fn ports(&self, k: u32) -> &Ports
-        requires { k < length self.now.wired }
+        requires { k < length self.now.callables }
         ensures { result.now ≡ ports_at self.now k }
     {
         &self.ports.as_slice()[k as usize]
@@ -109,10 +109,10 @@ impl Modules {
 
     /// True if a module is sequential.
     pub fn is_sequential(&self, k: u32) -> bool
-        requires { k < length self.now.wired }
-        ensures { result ≡ (module_at self.now.wired k).sequential }
+        requires { k < length self.now.callables }
+        ensures { result ≡ (module_at self.now.callables k).sequential }
     {
-        self.wired.as_slice()[k as usize].sequential
+        self.callables.as_slice()[k as usize].sequential
     }
 
     /// These modules and one more, whose name is not there yet.
@@ -126,25 +126,25 @@ impl Modules {
             mut numbers,
             mut infos,
             mut ports,
-            mut wired,
+            mut callables,
         } = self;
         add_number(alloc, &mut numbers, &defined.info.name, number)?;
-        add_module(&mut infos, &mut ports, &mut wired, defined)?;
+        add_module(&mut infos, &mut ports, &mut callables, defined)?;
         Ok(Modules {
             numbers,
             infos,
             ports,
-            wired,
+            callables,
         })
     }
 
     /// The tree of the module `root`.
     pub fn unfold(self, alloc: Global, root: u32) -> Result<Tree, UnfoldRefusal>
-        requires wiring { AreWired self.infos self.wired }
-        requires root { root < length self.wired }
-        ensures tree { IfOk result (IsUnfolded self.infos self.wired root) }
-        ensures refused { IfErr result (IsRefused self.infos self.wired root) }
+        requires wiring { AreCallables self.infos self.callables }
+        requires root { root < length self.callables }
+        ensures tree { IfOk result (IsUnfolded self.infos self.callables root) }
+        ensures refused { IfErr result (IsRefused self.infos self.callables root) }
     {
-        unfold(alloc, self.infos, self.wired.as_slice(), root)
+        unfold(alloc, self.infos, self.callables.as_slice(), root)
     }
 }

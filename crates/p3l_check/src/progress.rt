@@ -14,7 +14,7 @@ ghost use Rattle.p3l_check.specs.Places.{defined_from};
 ghost use Rattle.p3l_check.specs.Many.{GivesUnlessMany};
 ghost use Rattle.p3l_check.specs.Entry.{none_checked, checked_of, checked_result, new_name, ports_in, body_in, body_tree, kind_in, info_of, defined_as, defined_in, added_result, with_body, with_passed, passed_result, checked_module, checked_entry, checked_entries};
 
-use crate::Wired;
+use crate::Callable;
 use crate::clauses::rescue_in;
 use crate::defined::Defined;
 use crate::environment::Environment;
@@ -23,7 +23,7 @@ use crate::places::{Places, spot_of};
 use crate::skeleton::{Skeleton, skeleton_of};
 use p3l_ast::{Entry, Fault, Kind, Module, SourceRefusal, Spot};
 use p3l_base::{List, Name, NoMemory};
-use p3l_body::{CheckedSeq, Ports, Scope, Var, check_body, ports_of};
+use p3l_body::{CheckedSeq, Ports, Var, Variables, check_body, ports_of};
 use p3l_skel::{ModuleInfo, ModuleKind};
 use p3l_types::{Consts, words_of};
 use std::alloc::Global;
@@ -92,7 +92,7 @@ fn check_some_ports(module: &Module) -> Result<(), SourceRefusal>
 fn ports_in(
     alloc: Global,
     consts: &Consts,
-    scope: &mut Scope,
+    scope: &mut Variables,
     module: &Module,
 ) -> Result<Ports, SourceRefusal>
     requires { scope.old ≡ [] }
@@ -149,14 +149,18 @@ fn defined_as(info: ModuleInfo, ports: Ports, skeleton: Skeleton) -> Defined
     requires outs { total ports.outs ≤ 65536 }
     ensures { result ≡ defined_as info ports skeleton }
 {
-    let wired = Wired {
+    let callables = Callable {
         form: skeleton.form,
         ins: total(ports.ins.as_slice()),
         outs: total(ports.outs.as_slice()),
         calls: skeleton.calls,
         sequential: skeleton.sequential,
     };
-    Defined { info, ports, wired }
+    Defined {
+        info,
+        ports,
+        callables,
+    }
 }
 
 /// A module as the entries after it see it: its ports, its rescue number, and then its other clauses
@@ -169,7 +173,7 @@ fn defined_in(
     ensures defined { Gives result (defined_in (before_of env.entry) (module_tree «module».now)) }
     ensures name { IfOk result (λ defined. defined.info.name ≡ «module».now.at.name) }
 {
-    let mut scope = Scope::new(alloc);
+    let mut scope = Variables::new(alloc);
     let ports = ports_in(alloc, env.consts, &mut scope, module)?;
     let rescue = rescue_in(module.kind, module.at.pos, env.consts, &module.clauses)?;
     let skeleton = skeleton_of(alloc, env, module, &mut scope, &ports)?;

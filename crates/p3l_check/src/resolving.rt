@@ -6,7 +6,7 @@ ghost use Rattle.p3l_types.specs.Verdict.{Gives};
 ghost use Rattle.p3l_skel.specs.Lawful.{IsLawfulTree};
 ghost use Rattle.p3l_check.specs.Resolving.{main_place, root_of, limit_of, resolved_tree, whole, resolved};
 ghost use Rattle.p3l_check.specs.Many.{GivesUnlessMany};
-ghost use Rattle.p3l_check.specs.Wired.{AreWired};
+ghost use Rattle.p3l_check.specs.Callables.{AreCallables};
 ghost use Rattle.p3l_check.specs.Entry.{checked_of};
 
 use crate::UnfoldRefusal;
@@ -47,7 +47,7 @@ fn main_place(end: Pos, entries: &[Entry]) -> Pos
 /// The number of the module `main`, in a program that ends at this place.
 fn root_of(alloc: Global, end: Pos, modules: &Modules) -> Result<u32, SourceRefusal>
     ensures root { Gives result (root_of end modules.now) }
-    ensures within { IfOk result (λ root. root < length modules.now.wired) }
+    ensures within { IfOk result (λ root. root < length modules.now.callables) }
 {
     let main = Name::from_text(alloc, MAIN)?;
     match modules.number(&main) {
@@ -78,7 +78,7 @@ fn whole<'a>(
     program: &Program,
     progress: Progress<'a>,
 ) -> Result<Resolved<'a>, SourceRefusal>
-    requires { AreWired progress.modules.infos progress.modules.wired }
+    requires { AreCallables progress.modules.infos progress.modules.callables }
     ensures resolved { Gives (resolved_tree result)
         (whole (program_tree program.now) (checked_of progress.entry)) }
     ensures lawful { IfOk result (λ resolved. IsLawfulTree resolved.tree) }

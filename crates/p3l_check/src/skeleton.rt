@@ -16,7 +16,7 @@ use crate::environment::Environment;
 use crate::inside::{call_of, calls_of, turning_of};
 use p3l_ast::{Call, Fault, Kind, Module, SourceRefusal, Spot};
 use p3l_base::{List, NoMemory};
-use p3l_body::{Ports, Scope, Var};
+use p3l_body::{Ports, Var, Variables};
 use p3l_calls::{check_condition, check_plain_call, check_stage, cut_of, elements_of};
 use p3l_skel::Form;
 use std::alloc::Global;
@@ -42,7 +42,7 @@ fn one(alloc: Global, k: u32) -> Result<List<u32>, NoMemory>
 fn hand_on(
     alloc: Global,
     env: Environment<'_>,
-    scope: &mut Scope,
+    scope: &mut Variables,
     taken: &[Var],
     outs: &[Var],
     is_last: bool,
@@ -75,7 +75,7 @@ fn staged(
     alloc: Global,
     in_process: bool,
     env: Environment<'_>,
-    scope: &mut Scope,
+    scope: &mut Variables,
     ports: &Ports,
     calls: &[Call],
 ) -> Result<List<u32>, SourceRefusal>
@@ -108,7 +108,7 @@ fn stages(
     in_process: bool,
     env: Environment<'_>,
     module: &Module,
-    scope: &mut Scope,
+    scope: &mut Variables,
     ports: &Ports,
 ) -> Result<List<u32>, SourceRefusal>
     requires { scope.old ≡ port_names ports.now }
@@ -241,7 +241,7 @@ fn loop_body(env: Environment<'_>, ports: &Ports, call: &Call) -> Result<u32, So
 fn loop_condition(
     alloc: Global,
     env: Environment<'_>,
-    scope: &Scope,
+    scope: &Variables,
     ports: &Ports,
     call: &Call,
 ) -> Result<u32, SourceRefusal>
@@ -275,7 +275,7 @@ fn loop_of(
     alloc: Global,
     env: Environment<'_>,
     module: &Module,
-    scope: &Scope,
+    scope: &Variables,
     ports: &Ports,
 ) -> Result<Skeleton, SourceRefusal>
     requires { scope.now ≡ port_names ports.now }
@@ -310,7 +310,7 @@ pub fn skeleton_of(
     alloc: Global,
     env: Environment<'_>,
     module: &Module,
-    scope: &mut Scope,
+    scope: &mut Variables,
     ports: &Ports,
 ) -> Result<Skeleton, SourceRefusal>
     requires names { scope.old ≡ port_names ports.now }

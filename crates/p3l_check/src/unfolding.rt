@@ -5,9 +5,9 @@ ghost use Rattle.p3l_check.specs.Wiring.{IsWiring};
 ghost use Rattle.p3l_check.specs.Refusing.{IsUnfolded, IsRefused};
 ghost use Rattle.p3l_check.specs.declared.unfolding.UnfoldRefusal.TheVariants.{NoMemory};
 
+use crate::callables::Callable;
 use crate::instance::instance;
 use crate::nesting::is_nested;
-use crate::wired::Wired;
 use p3l_base::List;
 use p3l_skel::tree::NESTING;
 use p3l_skel::work::is_light;
@@ -40,18 +40,18 @@ impl From<p3l_base::NoMemory> for UnfoldRefusal {
 pub fn unfold(
     alloc: Global,
     infos: List<ModuleInfo>,
-    wired: &[Wired],
+    callables: &[Callable],
     root: u32,
 ) -> Result<Tree, UnfoldRefusal>
-    requires wiring { IsWiring infos wired.now }
-    requires root { root < length wired.now }
-    ensures tree { IfOk result (IsUnfolded infos wired.now root) }
-    ensures refused { IfErr result (IsRefused infos wired.now root) }
+    requires wiring { IsWiring infos callables.now }
+    requires root { root < length callables.now }
+    ensures tree { IfOk result (IsUnfolded infos callables.now root) }
+    ensures refused { IfErr result (IsRefused infos callables.now root) }
 {
-    if !is_nested(alloc, wired, root)? {
+    if !is_nested(alloc, callables, root)? {
         return Err(UnfoldRefusal::TooDeep);
     }
-    let nodes = instance(alloc, wired, NESTING, root, 0)?;
+    let nodes = instance(alloc, callables, NESTING, root, 0)?;
     let tree = Tree {
         nodes: List::from_vec(nodes),
         modules: infos,

@@ -6,7 +6,7 @@ use Rattle.std.proofs.lemmas.Option.{slice_get_within, slice_get-get_or}
 use Rattle.p3l_base.specs.declared.outcome.TrapKind.{TrapKind}
 use Rattle.p3l_code.specs.declared.instr.Instr.{Instr}
 use Rattle.p3l_code.specs.declared.instr.Code.{Code}
-use Rattle.p3l_code.specs.Machine.{Next, present, act, run_by, most_steps}
+use Rattle.p3l_code.specs.Machine.{Continuation, present, act, run_by, most_steps}
 use Rattle.p3l_code.specs.Safe.{IsSafe}
 use Rattle.p3l_code.specs.Run.{IsAt, LeavesOr, next_after, rank}
 use Rattle.p3l_code.specs.Counting.{first_from, has_ended, steps_from, Does, HasDone}
@@ -36,7 +36,7 @@ done_none code start = record {
 
 -- the instruction that leads on is one more
 pub done_more : (code : Code) (start : List ℤ) (done pc pc' : ℕ) (stack memory stack' memory' : List ℤ) (turns turns' : ℕ) (i : Instr) → slice_get code.instrs pc ≡ Some i → HasDone code start done pc stack memory turns →
-    ((next : Next) → act code next i pc stack memory turns ≡ next pc' stack' memory' turns') → HasDone code start (done + 1) pc' stack' memory' turns'
+    ((next : Continuation) → act code next i pc stack memory turns ≡ next pc' stack' memory' turns') → HasDone code start (done + 1) pc' stack' memory' turns'
 done_more code start done pc pc' stack memory stack' memory' turns turns' i at has leads = record {
   rest = rest;
   going = λ n low. elim (cases_lt done n) as (λ _. run_by code n 0 [] start 0 ≡ None) [
@@ -60,7 +60,7 @@ found_from test (suc left) n found low high before here = elim (cases_lt n found
 
 -- the instruction that ends the run is its last one
 pub done_all : (code : Code) (start : List ℤ) (done pc : ℕ) (stack memory : List ℤ) (turns : ℕ) (i : Instr) (r : Result (List ℤ) TrapKind) → done < most_steps code → slice_get code.instrs pc ≡ Some i → HasDone code start done pc stack memory turns →
-    ((next : Next) → act code next i pc stack memory turns ≡ Some r) → done + 1 ≡ steps_from code start
+    ((next : Continuation) → act code next i pc stack memory turns ≡ Some r) → done + 1 ≡ steps_from code start
 unfolding steps_from
 done_all code start done pc stack memory turns i r few at has ends =
     sym (found_from (has_ended code start) (most_steps code) 0 (done + 1) (omega arith) (omega arith)

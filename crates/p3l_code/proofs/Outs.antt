@@ -8,7 +8,7 @@ use Rattle.p3l_skel.specs.Tree.{HasLength}
 use Rattle.p3l_code.specs.declared.instr.Instr.{Instr}
 use Rattle.p3l_code.specs.declared.instr.Instr.TheVariants.{Push, Load, Store, Step, LoadAt, StoreAt, Unary, Binary, Jump, JumpZero, JumpNonZero, Turn, End}
 use Rattle.p3l_code.specs.declared.instr.Code.{Code}
-use Rattle.p3l_code.specs.Machine.{Ending, Next, present, after, popped, index_of, written, outs_of, act, run_by, most_steps, machine, started, ending, outcome_of, exec}
+use Rattle.p3l_code.specs.Machine.{Ending, Continuation, present, after, popped, index_of, written, outs_of, act, run_by, most_steps, machine, started, ending, outcome_of, exec}
 
 -- an ending has n words
 GivesWords : ℕ → Ending → Type 0
@@ -45,7 +45,7 @@ unfolding GivesWords
 turn_gives n true go h = h
 turn_gives n false go h = tt
 
-act_gives : (code : Code) (next : Next) (i : Instr) (pc : ℕ) (stack memory : List ℤ) (turns : ℕ) → ((p : ℕ) (s m : List ℤ) (t : ℕ) → GivesWords code.outs (next p s m t)) → GivesWords code.outs (act code next i pc stack memory turns)
+act_gives : (code : Code) (next : Continuation) (i : Instr) (pc : ℕ) (stack memory : List ℤ) (turns : ℕ) → ((p : ℕ) (s m : List ℤ) (t : ℕ) → GivesWords code.outs (next p s m t)) → GivesWords code.outs (act code next i pc stack memory turns)
 unfolding GivesWords
 act_gives code next (Push v) pc stack memory turns h = h (pc + 1) (v ∷ stack) memory turns
 act_gives code next (Load slot) pc stack memory turns h =

@@ -23,7 +23,7 @@ use p3l_skel::Tree;
 use std::alloc::Global;
 use std::test::*;
 
-/// How many words the root of a tree takes, and none where it has no root.
+/// Returns the number of words that the root of a tree takes, and 0 if it has no root.
 fn width_of(tree: &Tree) -> usize
     ensures { result ≡ (node_at tree.now 0).ins }
 {

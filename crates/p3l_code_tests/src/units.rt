@@ -18,7 +18,7 @@ use p3l_units::UnitTable;
 use std::alloc::Global;
 use std::test::*;
 
-/// How many words the root of a tree takes, if it is a comp.
+/// Returns the number of words that the root of a tree takes, if it is a comp.
 fn comp_ins(tree: &Tree) -> Option<u32>
     ensures unit { IfSome result (λ _. IsUnit tree.now 0) }
     ensures fits { IfSome result (λ ins. HasFittingLength tree.now 0 ins) }

@@ -1,4 +1,4 @@
--- What the limits of bodies bound: the depth of the stack, and the number of instructions.
+-- The limits of bodies bound the depth of the stack and the number of instructions.
 use Rattle.std.proofs.Common.{ℕ, ◌+◌, ◌*◌, ◌≤◌, arith}
 use Rattle.p3l_ast.specs.declared.expression.BinOp.{BinOp}
 use Rattle.p3l_ast.specs.declared.expression.BinOp.TheVariants as operators_of

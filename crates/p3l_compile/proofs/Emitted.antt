@@ -1,4 +1,4 @@
--- What is put after a code, step by step.
+-- The instructions that are put after a code, step by step.
 use Rattle.std.proofs.Common.{◌≢◌, ◌≡◌, ℕ, ℤ, zero, suc, pos, ◌+◌, ◌-◌, ◌<◌, ◌≤◌, List, [], ◌∷◌, ◌++◌, length, drop, get_or, refl, sym, ap, ◌∙◌, arith, append_assoc, add-one}
 use Rattle.std.specs.Prelude.{slice_set, slice_index, Bool, false, ◌==◌}
 use Rattle.std.proofs.lemmas.Bool.Decides.{nat_tests}
@@ -93,7 +93,7 @@ index_end scope items sizes d base h =
 pub size_end : (items : List Expr) (d : ℕ) → length items ≤ d → index_size (phrases (drop d items)) ≡ 0
 size_end items d h = ap (λ x. index_size (phrases x)) (drop_all d items h)
 
--- what reads an element by more than one index
+-- the code that reads an element by more than one index is its `read_code`
 pub read_emitted : (scope : Names) (name : List ℕ) (v : ℤ) (items : List Expr) (first base c1 c2 c3 : List Instr) (element : Instr) → ¬ (items ≡ []) → length items ≢ 1 → c1 ≡ base ++ Push (pos 0) ∷ [] → length c1 ≡ length base + 1 → c2 ≡ c1 ++ index_code scope (length c1) (sizes_in (found scope name)) (phrases items) → element ≡ element_code (found scope name) → c3 ≡ c2 ++ element ∷ [] → c3 ≡ base ++ read_code (found scope name) v (phrases items) first (index_code scope (length base + 1) (sizes_in (found scope name)) (phrases items))
 read_emitted scope name v [] first base c1 c2 c3 element some many e1 l1 e2 el e3 = absurd (some refl)
 read_emitted scope name v (e ∷ []) first base c1 c2 c3 element some many e1 l1 e2 el e3 = absurd (many (omega arith))

@@ -31,7 +31,7 @@ IsSingle none = ⊥
 IsSingle (more e none) = Unit {0}
 IsSingle (more e (more f is)) = ⊥
 
--- how long the code is
+-- the code of an operator has its operands' lengths and the operator's size
 operator_length : (op : BinOp) (pc m n : ℕ) (left : List Instr) (right : ℕ → List Instr) → length left ≡ m → ((p : ℕ) → length (right p) ≡ n) → length (operator_code op pc left m right n) ≡ m + n + operator_size op
 operator_length operators.Or pc m n left right h k =
     let r = k (pc + m + 1) in

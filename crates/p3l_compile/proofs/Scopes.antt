@@ -1,4 +1,4 @@
--- What the valuation that a memory stands for says of names.
+-- The sizes and words of names in the valuation that a memory stands for.
 use Rattle.std.proofs.Common.{◌≡◌, ◌≢◌, ℕ, ℤ, zero, suc, pos, ◌+◌, ◌-◌, ◌≤◌, ◌<◌, Bool, true, false, cond, List, [], ◌∷◌, ◌++◌, length, take, drop, map, Some, None, refl, sym, ap, ◌∙◌, subst, arith}
 use Rattle.std.specs.Prelude.{find, bytes_eq, slice_get, slice_set, slice_index_or}
 use Rattle.std.specs.List.{AllByRecursion}

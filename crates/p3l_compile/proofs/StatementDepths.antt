@@ -174,7 +174,7 @@ module _ (code : Code) (table : List ℕ) (scope : Names) (laid : IsLaid scope c
         ends = tt;
       })
 
-  -- a loop, whatever its body
+  -- a loop with any body
   loop_fine : (pc n : ℕ) (body : ℕ → List Instr) (ds : List ℕ) (e : Phrase) → length (body (pc + 2)) ≡ n → length ds ≡ n → Fits scope e → IsLimited e → pc + loop_size n (phrase_size e) < length code.instrs → slice_get code.instrs (pc + 1) ≡ Some Turn → DepthsAt table pc (loop_depths ds (phrase_depths 0 e)) → slice_get table (pc + loop_size n (phrase_size e)) ≡ Some 0 → (DepthsAt table (pc + 2) ds → slice_get table (pc + 2 + n) ≡ Some 0 → slice_get table (pc + 2) ≡ Some 0) → (DepthsAt table (pc + 2) ds → slice_get table (pc + 2 + n) ≡ Some 0 → FineAt code table (pc + 2) (body (pc + 2))) → FineAt code table pc (loop_code pc body n (λ p. phrase_code scope p e))
   loop_fine pc n body ds e long deep fits limited inside turn has end first B =
       let m = phrase_size e in

@@ -1,4 +1,4 @@
--- What a checked body must keep so that it can be compiled, and what its code then does.
+-- The conditions under which a checked body can be compiled, and the meaning of its code then.
 use Rattle.std.specs.Prelude.{◌≡◌, ◌≢◌, ℕ, ℤ, ◌+◌, ◌≤◌, ◌<◌, List, [], ◌∷◌, ◌++◌, length, None, bytes_eq}
 use Rattle.std.specs.List.{AllByRecursion}
 use Rattle.std.specs.Map.{lookup}
@@ -16,7 +16,7 @@ use Rattle.p3l_compile.specs.Statement.{FitsCode, statement_code}
 use Rattle.p3l_compile.specs.Limits.{KeepsLimits, code_items}
 use Rattle.p3l_base.specs.Limits.{most_budget, most_words}
 
--- how many words variables have
+-- the number of words of variables
 abbrev pub total : List Var → ℕ
 total [] = 0
 total (var ∷ vars) = width var + total vars

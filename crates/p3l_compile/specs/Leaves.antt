@@ -1,4 +1,4 @@
--- What the bodies of a tree's `seq` modules make of words.
+-- The outcomes of the bodies of a tree's `seq` modules on words.
 use Rattle.std.specs.Prelude.{◌≡◌, ℕ, ℤ, ◌<◌, nat_eq, if◌then◌else◌, List, [], ◌∷◌, length, Option, Some, None, IfSome, IsSomeAnd}
 use Rattle.std.specs.List.{All, AllByRecursion}
 use Rattle.p3l_base.specs.declared.outcome.Outcome.{Outcome}
@@ -16,12 +16,12 @@ use Rattle.p3l_compile.specs.Condition.{total, IsCompilable, Compiles}
 abbrev pub body_of : Tree → List SeqTree → ℕ → Option SeqTree
 body_of tree seqs m = item_of tree.modules seqs m
 
--- what a body means of the words that it takes; no node has a module without a body, or other words
+-- the outcome of a body on words; no node has a module without a body, or other words
 abbrev pub meaning : ℕ → List ℤ → Option SeqTree → Outcome
 meaning m words None = unfit m
 meaning m words (Some seq) = if nat_eq (length words) (total seq.ins) then eval seq words else unfit m
 
--- what the body of a module means of the words that it takes
+-- the outcome of a module's body on words
 unfoldable pub body_leaf : Tree → List SeqTree → ℕ → List ℤ → Outcome
 body_leaf tree seqs m words = meaning m words (body_of tree seqs m)
 

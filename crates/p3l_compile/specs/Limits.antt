@@ -3,7 +3,7 @@
 use Rattle.std.specs.Prelude.{ℕ, ◌+◌, ◌≤◌, max}
 use Rattle.p3l_ast.specs.Tree.{Phrase, number, read, unary, binary, Phrases, none, more, Statements, done, assign, if_, if_else, while_, for_}
 
--- how many operators an expression has, those of its indices too
+-- the number of operators of an expression, those of its indices too
 abbrev mutual
   pub operators : Phrase → ℕ
   operators (number v) = 0
@@ -15,7 +15,7 @@ abbrev mutual
   index_operators none = 0
   index_operators (more e is) = operators e + index_operators is
 
--- how deep the indices of an expression nest
+-- the depth to which the indices of an expression nest
 abbrev mutual
   pub nesting : Phrase → ℕ
   nesting (number v) = 0
@@ -27,7 +27,7 @@ abbrev mutual
   index_nesting none = 0
   index_nesting (more e is) = max (nesting e + 1) (index_nesting is)
 
--- how many targets, numbers and operators an expression has
+-- the number of targets, numbers and operators of an expression
 abbrev mutual
   pub items : Phrase → ℕ
   items (number v) = 1
@@ -39,7 +39,7 @@ abbrev mutual
   index_items none = 0
   index_items (more e is) = items e + index_items is
 
--- how many of them there are in statements, and statements with them
+-- the number of those in statements, with the statements themselves
 abbrev pub code_items : Statements → ℕ
 code_items done = 0
 code_items (assign x is e next) = index_items is + items e + 2 + code_items next

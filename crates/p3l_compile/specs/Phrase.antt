@@ -8,7 +8,7 @@ use Rattle.p3l_code.specs.declared.instr.Instr.TheVariants.{Push, Load, Step, Lo
 use Rattle.p3l_compile.specs.declared.scope.Slot.{Slot}
 use Rattle.p3l_compile.specs.Scope.{Names, found, constant_of}
 
--- how many instructions an operator adds to its operands'
+-- the number of instructions that an operator adds to its operands'
 abbrev pub operator_size : BinOp → ℕ
 operator_size operators.Or = 5
 operator_size operators.And = 5
@@ -21,7 +21,7 @@ read_size none n = 1
 read_size (more e none) n = n
 read_size (more e (more f is)) n = n + 2
 
--- how many instructions an expression has
+-- the number of instructions of an expression
 abbrev mutual
   pub phrase_size : Phrase → ℕ
   phrase_size (number v) = 1
@@ -52,7 +52,7 @@ read_code slot constant none first index = scalar_code slot constant ∷ []
 read_code slot constant (more e none) first index = first ++ element_code slot ∷ []
 read_code slot constant (more e (more f is)) first index = Push (pos 0) ∷ (index ++ element_code slot ∷ [])
 
--- where the left operand of `||` or `&&` decides: a jump past the right one, to where the number stands
+-- the jump if the left operand of `||` or `&&` decides: past the right one, to the place of the number
 -- that it then gives
 abbrev pub skip_code : BinOp → ℕ → Instr
 skip_code operators.Or to = JumpNonZero to
@@ -94,7 +94,7 @@ abbrev mutual
   index_code scope pc sizes (more e is) =
       phrase_code scope pc e ++ (Step (slice_index sizes 0) ∷ index_code scope (pc + phrase_size e + 1) (drop 1 sizes) is)
 
--- how many indices there are
+-- the number of indices
 abbrev pub count_of : Phrases → ℕ
 count_of none = 0
 count_of (more e is) = count_of is + 1

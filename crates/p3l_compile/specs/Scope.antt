@@ -1,4 +1,4 @@
--- What the names of a body stand for, and where their words lie in the memory.
+-- The variables and constants that the names of a body stand for, and the places of their words in the memory.
 use Rattle.std.specs.Prelude.{◌≡◌, ◌≢◌, ℕ, ℤ, pos, ◌+◌, ◌≤◌, List, [], ◌∷◌, ◌++◌, take, drop, map, Option, bytes_eq}
 use Rattle.std.specs.List.{AllByRecursion}
 use Rattle.std.specs.Map.{lookup}
@@ -26,7 +26,7 @@ found names name = lookup (bytes_eq name) names.slots
 abbrev pub constant_of : Names → List ℕ → ℤ
 constant_of names name = option_map_or (λ value. value) (lookup (bytes_eq name) names.constants) (pos 0)
 
--- what a variable stands for in a memory
+-- the binding of a variable in a memory
 abbrev pub bound_at : List ℤ → List ℕ × Slot → Binding
 bound_at memory p = record { name = p.0; sizes = p.1.sizes; words = take p.1.words (drop p.1.base memory) }
 
@@ -50,7 +50,7 @@ LieFrom from (p ∷ slots) constants size =
 abbrev pub IsLaid : Names → ℕ → Type 0
 IsLaid names size = LieFrom 0 names.slots names.constants size
 
--- where the words of a variable lie that stands at a slot
+-- the slot of a variable whose words lie from a base on
 abbrev pub slot_at : ℕ → Var → Slot
 slot_at base var = record { sizes = var.shape.sizes; base = base; words = width var }
 

@@ -67,7 +67,7 @@ statement_code scope pc (for_ x is e w y js f body next) =
     ++ (loop_code start (λ p. statement_code scope p body ++ assign_code scope (p + statement_size body) y.name js f) n (λ p. phrase_code scope p w)
     ++ statement_code scope (start + loop_size n (phrase_size w)) next)
 
--- what is assigned is a variable with an index for each of its sizes
+-- the target is a variable with an index for each of its sizes
 abbrev pub IsTarget : Option Slot → ℕ → Type 0
 IsTarget (Some slot) n = n ≡ length slot.sizes
 IsTarget None n = ⊥

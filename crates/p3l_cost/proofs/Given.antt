@@ -1,4 +1,4 @@
--- What follows from the answer of a rule for the rules after it.
+-- Consequences of a rule's answer for the rules after it.
 use Rattle.std.proofs.Common.{◌≡◌, Result, Ok, Err, refl}
 use Rattle.p3l_cost.specs.declared.refusal.CostRefusal.{CostRefusal}
 use Rattle.p3l_cost.specs.declared.refusal.CostRefusal.TheVariants.{NotToml, BadKey, BadValue, Missing, NoMemory}

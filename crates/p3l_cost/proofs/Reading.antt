@@ -1,4 +1,4 @@
--- What is read of a document are costs of its tree.
+-- Numbers that are read from a document are costs of its tree.
 use Rattle.std.proofs.Common.{◌≡◌, ℕ, zero, suc, ◌+◌, ◌<◌, ◌≤◌, ◌&&◌, Bool, true, false, List, [], ◌∷◌, get_or, length, Option, Some, None, Result, Ok, Err, refl, ap, ◌∙◌, subst, arith, pos, negsuc, codes, inl}
 use Rattle.std.specs.Prelude.{IfOk, IfSome, unwrap_or, if◌then◌else◌, nat_le, slice_index}
 use Rattle.std.specs.List.{All}
@@ -98,7 +98,7 @@ module _ (tree : Tree) (document : Members) where
           let same : n ∷ rest ≡ ns = cc in
           rw (← same) (omega (arith, (more rest q).0), All-cons (λ k. k ≤ most_cost) n rest (ticks_of-few home m n p) (more rest q).1)
 
-  -- what holds of the turns of a loop as it is, of 1 and of all numbers that an entry may have
+  -- a property of the turns of a loop as they are, of 1 and of all numbers that an entry may have
   -- holds of the turns of a module
   turns_of-are : (P : ℕ → Type 0) (home : ℕ) (m : ModuleInfo) → P 1 → P (full_turns tree.nodes home) → ((n : ℕ) → 1 ≤ n → n ≤ turns_or most_cost tree.nodes home → P n) → P (turns_of_module tree document home m)
   turns_of-are P home m one full entry = by (speaks_of Turns m.kind)
@@ -157,7 +157,7 @@ module _ (tree : Tree) (document : Members) where
           within = λ k d inside. within-form (get_or tree.nodes k d).form _ (λ t e. node-within k d inside t e);
         }
 
--- what a document says are costs of its tree
+-- the costs in a document are costs of its tree
 pub says_lawful : (tree : Tree) (document : Members) (costs : Costs) → IsLawfulTree tree → costs_in tree document ≡ Ok costs → AreCostsOf tree costs
 unfolding costs_in
 says_lawful tree document costs lawful is = by (keys_rule tree document) (all_ticks tree document 0 tree.modules) refl is
@@ -170,7 +170,7 @@ says_lawful tree document costs lawful is = by (keys_rule tree document) (all_ti
         let same : costs_with document ticks (all_turns tree document 0 tree.modules) ≡ costs = cc in
         subst (AreCostsOf tree) same (lawful_costs tree document lawful ticks q)
 
--- what a document gives is read of its text
+-- an answer that a text's document gives is read from the text
 pub read_is : (tree : Tree) (text : List ℕ) (document : Members) (answer : Result Costs CostRefusal) → IsDocument text document → Gives answer (costs_in tree document) → IsRead tree text answer
 read_is tree text document (Ok costs) is h = record { document = document; is = is; says = h }
 read_is tree text document (Err NotToml) is h = absurd h

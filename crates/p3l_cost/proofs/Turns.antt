@@ -48,14 +48,14 @@ or_else P node home other own rest =
     of_form (Reduce w len elem) h = rest
     of_form (Loop turns tokens) h = h turns refl
 
--- what holds of the other number and of the turns of each loop of the module holds of its turns
+-- a property of the other number and of the turns of each loop of the module holds of its turns
 turns_or-are : (P : ℕ → Type 0) (other home : ℕ) → P other → (nodes : List Node) → All (λ (n : Node). (t : ℕ) → n.module ≡ home → turns_of n.form ≡ Some t → P t) nodes → P (turns_or other nodes home)
 turns_or-are P other home own [] all = own
 turns_or-are P other home own (node ∷ nodes) all =
     let each = λ (n : Node). (t : ℕ) → n.module ≡ home → turns_of n.form ≡ Some t → P t in
     or_else P node home (turns_or other nodes home) (All-head each node nodes all) (turns_or-are P other home own nodes (All-tail each node nodes all))
 
--- where a node is a loop of the module, and none of its loops allows more than t turns, no other number counts
+-- `turns_or` is at most t, if a node is a loop of the module, and none of its loops allows more than t turns
 turns_or-found : (other home t : ℕ) (nodes : List Node) (k : ℕ) (d : Node) → k < length nodes → (get_or nodes k d).module ≡ home → turns_of (get_or nodes k d).form ≡ Some t → All (λ (n : Node). (u : ℕ) → n.module ≡ home → turns_of n.form ≡ Some u → u ≤ t) nodes → turns_or other nodes home ≤ t
 turns_or-found other home t [] k d inside same form all = absurd (omega (arith, inside))
 turns_or-found other home t (node ∷ nodes) zero d inside same form all =

@@ -1,4 +1,4 @@
--- What a cost file says of a tree's modules, over what its text is as TOML.
+-- The costs that a cost file gives a tree's modules, by the TOML data of its text.
 use Rattle.std.specs.Prelude.{◌≡◌, ◌⊎◌, ℕ, ℤ, pos, negsuc, ◌+◌, ◌==◌, ◌&&◌, Bool, true, false, nat_le, List, [], ◌∷◌, ◌++◌, Option, Some, None, unwrap_or, Result, Ok, Err, bytes_eq, codes, if◌then◌else◌, IsUtf8}
 use Rattle.std.specs.List.{list_any}
 use Rattle.std.specs.Map.{lookup}
@@ -20,14 +20,14 @@ use Rattle.p3l_cost.specs.Standard.{turns_or, full_turns}
 use Rattle.p3l_cost.specs.Wanted.{TomlWanted}
 use Rattle.p3l_base.specs.Memory.{Refused}
 
--- what a rule says
+-- the result of a rule: kept, or the refusal
 abbrev pub Verdict : Type 0
 Verdict = Result (Unit {0}) CostRefusal
 
 abbrev pub kept : Verdict
 kept = Ok tt
 
--- what comes of a value, if its rules are kept
+-- continues with a value, or passes its refusal on
 abbrev pub given : {A B : Type 0} → Result A CostRefusal → (A → Result B CostRefusal) → Result B CostRefusal
 given (Ok x) go = go x
 given (Err refusal) go = Err refusal
@@ -66,7 +66,7 @@ abbrev pub least_of : Section → ℕ
 least_of Ticks = 0
 least_of Turns = 1
 
--- how an entry is written
+-- the full key of an entry
 abbrev pub entry_key : Section → List ℕ → List ℕ
 entry_key section name = section_key section ++ (codes "." ++ name)
 
@@ -200,7 +200,7 @@ IsNoDocument text (BadValue key) = ⊥
 IsNoDocument text (Missing name) = ⊥
 IsNoDocument text NoMemory = TomlWanted
 
--- what the text says of the tree
+-- the text is a document, and `meant` is its costs of the tree or their refusal
 pub record Says (tree : Tree) (text : List ℕ) (meant : Result Costs CostRefusal) : Type 0 where
   pub document : Members
   pub is : IsDocument text document

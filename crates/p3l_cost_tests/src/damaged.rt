@@ -10,7 +10,7 @@ use std::test::Fail;
 /// A line in place of one of the certificate's, counted from 0.
 type Changed = (usize, &'static [u8]);
 
-/// What a certificate is refused for.
+/// The refusals that are expected of a certificate.
 #[derive(Clone, Copy, Drop)]
 enum Due {
     Nothing,

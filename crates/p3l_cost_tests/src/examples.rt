@@ -6,48 +6,48 @@ use crate::making::{made, refusal};
 use p3l_base::{Dim, List, NoMemory, Place};
 use p3l_cost::{Costs, standard};
 use p3l_skel::{Tree, lawful_tree};
-use p3l_sketch::{Array, Row, Shape, tree_of};
+use p3l_sketch::{Array, NodeForm, Row, tree_of};
 use std::alloc::Global;
 use std::process::Abort;
 use std::test::Fail;
 
-const LINE_ROWS: [Row; 1] = [(Shape::Seq, 1, 1, &[])];
+const LINE_ROWS: [Row; 1] = [(NodeForm::Seq, 1, 1, &[])];
 
 const NORM_ROWS: [Row; 3] = [
-    (Shape::Comp, 4, 1, &[1, 2]),
-    (Shape::Seq, 4, 4, &[]),
-    (Shape::Seq, 4, 1, &[]),
+    (NodeForm::Comp, 4, 1, &[1, 2]),
+    (NodeForm::Seq, 4, 4, &[]),
+    (NodeForm::Seq, 4, 1, &[]),
 ];
 
 const HALVE_ROWS: [Row; 3] = [
-    (Shape::Loop(64, 4), 2, 2, &[1, 2]),
-    (Shape::Seq, 2, 2, &[]),
-    (Shape::Seq, 2, 1, &[]),
+    (NodeForm::Loop(64, 4), 2, 2, &[1, 2]),
+    (NodeForm::Seq, 2, 2, &[]),
+    (NodeForm::Seq, 2, 1, &[]),
 ];
 
 const GREATEST_ROWS: [Row; 2] = [
-    (Shape::Reduce(Some(4), 10, 1), 10, 1, &[1]),
-    (Shape::Seq, 2, 1, &[]),
+    (NodeForm::Reduce(Some(4), 10, 1), 10, 1, &[1]),
+    (NodeForm::Seq, 2, 1, &[]),
 ];
 
 const TOTAL_ROWS: [Row; 2] = [
-    (Shape::Reduce(None, 16, 1), 16, 1, &[1]),
-    (Shape::Seq, 2, 1, &[]),
+    (NodeForm::Reduce(None, 16, 1), 16, 1, &[1]),
+    (NodeForm::Seq, 2, 1, &[]),
 ];
 
 const SIGNAL_ROWS: [Row; 4] = [
-    (Shape::Pipe, 8, 8, &[1, 2]),
-    (Shape::Seq, 8, 8, &[]),
-    (Shape::Farm(None), 8, 8, &[3]),
-    (Shape::Seq, 8, 8, &[]),
+    (NodeForm::Pipe, 8, 8, &[1, 2]),
+    (NodeForm::Seq, 8, 8, &[]),
+    (NodeForm::Farm(None), 8, 8, &[3]),
+    (NodeForm::Seq, 8, 8, &[]),
 ];
 
 const FARMS_ROWS: [Row; 5] = [
-    (Shape::Pipe, 1, 1, &[1, 3]),
-    (Shape::Farm(None), 1, 1, &[2]),
-    (Shape::Seq, 1, 1, &[]),
-    (Shape::Farm(Some(3)), 1, 1, &[4]),
-    (Shape::Seq, 1, 1, &[]),
+    (NodeForm::Pipe, 1, 1, &[1, 3]),
+    (NodeForm::Farm(None), 1, 1, &[2]),
+    (NodeForm::Seq, 1, 1, &[]),
+    (NodeForm::Farm(Some(3)), 1, 1, &[4]),
+    (NodeForm::Seq, 1, 1, &[]),
 ];
 
 const FIRST: Dim = Dim {
@@ -70,8 +70,8 @@ const FACTORS: [Array; 2] = [(0, &[FIRST, REST]), (9, &[REST, SECOND])];
 const PRODUCT: [Array; 1] = [(0, &[FIRST, SECOND])];
 
 const MATRIX_ROWS: [Row; 2] = [
-    (Shape::Map(None, 3, 3, &FACTORS, &PRODUCT), 18, 9, &[1]),
-    (Shape::Seq, 6, 1, &[]),
+    (NodeForm::Map(None, 3, 3, &FACTORS, &PRODUCT), 18, 9, &[1]),
+    (NodeForm::Seq, 6, 1, &[]),
 ];
 
 // The certificate for this number of processors is this text, it is accepted, and no prefix of it is

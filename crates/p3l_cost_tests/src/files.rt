@@ -2,19 +2,19 @@
 
 use p3l_cost::{CostRefusal, Costs, read_costs};
 use p3l_skel::{ModuleKind, lawful_tree};
-use p3l_sketch::{ModuleRow, Shape, tree_named};
+use p3l_sketch::{ModuleRow, NodeForm, tree_named};
 use std::alloc::{AllocError, Global};
 use std::process::Abort;
 use std::test::Fail;
 
 // A pipe of a farm and of a loop of 10 turns.
 const NODES: [ModuleRow; 6] = [
-    (Shape::Pipe, 6, 1, 1, &[1, 3]),
-    (Shape::Farm(None), 5, 1, 1, &[2]),
-    (Shape::Seq, 0, 1, 1, &[]),
-    (Shape::Loop(10, 4), 3, 1, 1, &[4, 5]),
-    (Shape::Seq, 0, 1, 1, &[]),
-    (Shape::Seq, 1, 1, 1, &[]),
+    (NodeForm::Pipe, 6, 1, 1, &[1, 3]),
+    (NodeForm::Farm(None), 5, 1, 1, &[2]),
+    (NodeForm::Seq, 0, 1, 1, &[]),
+    (NodeForm::Loop(10, 4), 3, 1, 1, &[4, 5]),
+    (NodeForm::Seq, 0, 1, 1, &[]),
+    (NodeForm::Seq, 1, 1, 1, &[]),
 ];
 
 // The `seq` modules are in another order than that of their names, and `idle` and `rest` are

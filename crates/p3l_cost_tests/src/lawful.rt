@@ -2,7 +2,7 @@
 
 use p3l_base::{Dim, NoMemory, Place};
 use p3l_skel::{ModuleKind, lawful_counts, lawful_tree};
-use p3l_sketch::{Array, ModuleRow, Shape, Sketch, counts_of, tree_with, tree_with_rescue};
+use p3l_sketch::{Array, ModuleRow, NodeForm, Sketch, counts_of, tree_with, tree_with_rescue};
 use std::alloc::Global;
 use std::process::Abort;
 use std::test::Fail;
@@ -34,14 +34,14 @@ const SHARED: [Array; 1] = [(0, &[ALL_FOUR])];
 /// A pipe of a map and of a loop whose body is a comp and whose condition is a reduce.
 const WHOLE: Sketch = (
     &[
-        (Shape::Pipe, 0, 4, 4, &[1, 3]),
-        (Shape::Map(None, 4, 1, &FOUR, &FOUR), 1, 4, 4, &[2]),
-        (Shape::Seq, 2, 1, 1, &[]),
-        (Shape::Loop(10, 4), 3, 4, 4, &[4, 6]),
-        (Shape::Comp, 4, 4, 4, &[5]),
-        (Shape::Seq, 5, 4, 4, &[]),
-        (Shape::Reduce(Some(2), 4, 1), 6, 4, 1, &[7]),
-        (Shape::Seq, 7, 2, 1, &[]),
+        (NodeForm::Pipe, 0, 4, 4, &[1, 3]),
+        (NodeForm::Map(None, 4, 1, &FOUR, &FOUR), 1, 4, 4, &[2]),
+        (NodeForm::Seq, 2, 1, 1, &[]),
+        (NodeForm::Loop(10, 4), 3, 4, 4, &[4, 6]),
+        (NodeForm::Comp, 4, 4, 4, &[5]),
+        (NodeForm::Seq, 5, 4, 4, &[]),
+        (NodeForm::Reduce(Some(2), 4, 1), 6, 4, 1, &[7]),
+        (NodeForm::Seq, 7, 2, 1, &[]),
     ],
     &[
         ModuleKind::Pipe,
@@ -57,30 +57,36 @@ const WHOLE: Sketch = (
 
 /// Rows in place of those of the whole tree, each of which breaks a rule.
 const BROKEN: [(usize, ModuleRow); 24] = [
-    (0, (Shape::Pipe, 0, 0, 4, &[1, 3])),
-    (0, (Shape::Pipe, 0, 4, 4, &[3, 3])),
-    (1, (Shape::Map(None, 3, 1, &FOUR, &FOUR), 1, 4, 4, &[2])),
-    (1, (Shape::Map(None, 4, 2, &FOUR, &FOUR), 1, 4, 4, &[2])),
-    (1, (Shape::Map(None, 4, 1, &LATE, &FOUR), 1, 4, 4, &[2])),
-    (1, (Shape::Map(None, 4, 1, &FIVE, &FOUR), 1, 4, 4, &[2])),
-    (1, (Shape::Map(None, 4, 1, &FOUR, &LATE), 1, 4, 4, &[2])),
-    (1, (Shape::Map(None, 4, 1, &FOUR, &SHARED), 1, 4, 4, &[2])),
-    (1, (Shape::Map(Some(5), 4, 1, &FOUR, &FOUR), 1, 4, 4, &[2])),
-    (1, (Shape::Map(None, 4, 1, &FOUR, &FOUR), 1, 4, 5, &[2])),
-    (2, (Shape::Seq, 2, 2, 1, &[])),
-    (2, (Shape::Seq, 2, 1, 1, &[3])),
-    (3, (Shape::Loop(0, 4), 3, 4, 4, &[4, 6])),
-    (3, (Shape::Loop(65_537, 4), 3, 4, 4, &[4, 6])),
-    (3, (Shape::Loop(10, 0), 3, 4, 4, &[4, 6])),
-    (3, (Shape::Loop(10, 1025), 3, 4, 4, &[4, 6])),
-    (3, (Shape::Loop(10, 4), 3, 4, 4, &[4])),
-    (4, (Shape::Comp, 0, 4, 4, &[5])),
-    (5, (Shape::Seq, 9, 4, 4, &[])),
-    (6, (Shape::Reduce(Some(3), 4, 1), 6, 4, 1, &[7])),
-    (6, (Shape::Reduce(Some(8), 4, 1), 6, 4, 1, &[7])),
-    (6, (Shape::Reduce(Some(2), 3, 1), 6, 4, 1, &[7])),
-    (6, (Shape::Reduce(Some(2), 4, 2), 6, 4, 1, &[7])),
-    (7, (Shape::Seq, 5, 2, 1, &[])),
+    (0, (NodeForm::Pipe, 0, 0, 4, &[1, 3])),
+    (0, (NodeForm::Pipe, 0, 4, 4, &[3, 3])),
+    (1, (NodeForm::Map(None, 3, 1, &FOUR, &FOUR), 1, 4, 4, &[2])),
+    (1, (NodeForm::Map(None, 4, 2, &FOUR, &FOUR), 1, 4, 4, &[2])),
+    (1, (NodeForm::Map(None, 4, 1, &LATE, &FOUR), 1, 4, 4, &[2])),
+    (1, (NodeForm::Map(None, 4, 1, &FIVE, &FOUR), 1, 4, 4, &[2])),
+    (1, (NodeForm::Map(None, 4, 1, &FOUR, &LATE), 1, 4, 4, &[2])),
+    (
+        1,
+        (NodeForm::Map(None, 4, 1, &FOUR, &SHARED), 1, 4, 4, &[2]),
+    ),
+    (
+        1,
+        (NodeForm::Map(Some(5), 4, 1, &FOUR, &FOUR), 1, 4, 4, &[2]),
+    ),
+    (1, (NodeForm::Map(None, 4, 1, &FOUR, &FOUR), 1, 4, 5, &[2])),
+    (2, (NodeForm::Seq, 2, 2, 1, &[])),
+    (2, (NodeForm::Seq, 2, 1, 1, &[3])),
+    (3, (NodeForm::Loop(0, 4), 3, 4, 4, &[4, 6])),
+    (3, (NodeForm::Loop(65_537, 4), 3, 4, 4, &[4, 6])),
+    (3, (NodeForm::Loop(10, 0), 3, 4, 4, &[4, 6])),
+    (3, (NodeForm::Loop(10, 1025), 3, 4, 4, &[4, 6])),
+    (3, (NodeForm::Loop(10, 4), 3, 4, 4, &[4])),
+    (4, (NodeForm::Comp, 0, 4, 4, &[5])),
+    (5, (NodeForm::Seq, 9, 4, 4, &[])),
+    (6, (NodeForm::Reduce(Some(3), 4, 1), 6, 4, 1, &[7])),
+    (6, (NodeForm::Reduce(Some(8), 4, 1), 6, 4, 1, &[7])),
+    (6, (NodeForm::Reduce(Some(2), 3, 1), 6, 4, 1, &[7])),
+    (6, (NodeForm::Reduce(Some(2), 4, 2), 6, 4, 1, &[7])),
+    (7, (NodeForm::Seq, 5, 2, 1, &[])),
 ];
 
 /// Tells whether a tree is lawful.
@@ -137,25 +143,25 @@ fn seqs_and_comps_alone_are_rescued(rt: HostRuntime) -> Result<(), Fail> {
 /// Comps, each around the next, around a seq.
 const FIVE_COMPS: Sketch = (
     &[
-        (Shape::Comp, 0, 1, 1, &[1]),
-        (Shape::Comp, 0, 1, 1, &[2]),
-        (Shape::Comp, 0, 1, 1, &[3]),
-        (Shape::Comp, 0, 1, 1, &[4]),
-        (Shape::Comp, 0, 1, 1, &[5]),
-        (Shape::Seq, 1, 1, 1, &[]),
+        (NodeForm::Comp, 0, 1, 1, &[1]),
+        (NodeForm::Comp, 0, 1, 1, &[2]),
+        (NodeForm::Comp, 0, 1, 1, &[3]),
+        (NodeForm::Comp, 0, 1, 1, &[4]),
+        (NodeForm::Comp, 0, 1, 1, &[5]),
+        (NodeForm::Seq, 1, 1, 1, &[]),
     ],
     &[ModuleKind::Comp, ModuleKind::Seq],
 );
 
 const SIX_COMPS: Sketch = (
     &[
-        (Shape::Comp, 0, 1, 1, &[1]),
-        (Shape::Comp, 0, 1, 1, &[2]),
-        (Shape::Comp, 0, 1, 1, &[3]),
-        (Shape::Comp, 0, 1, 1, &[4]),
-        (Shape::Comp, 0, 1, 1, &[5]),
-        (Shape::Comp, 0, 1, 1, &[6]),
-        (Shape::Seq, 1, 1, 1, &[]),
+        (NodeForm::Comp, 0, 1, 1, &[1]),
+        (NodeForm::Comp, 0, 1, 1, &[2]),
+        (NodeForm::Comp, 0, 1, 1, &[3]),
+        (NodeForm::Comp, 0, 1, 1, &[4]),
+        (NodeForm::Comp, 0, 1, 1, &[5]),
+        (NodeForm::Comp, 0, 1, 1, &[6]),
+        (NodeForm::Seq, 1, 1, 1, &[]),
     ],
     &[ModuleKind::Comp, ModuleKind::Seq],
 );
@@ -171,16 +177,16 @@ const MANY: [Array; 1] = [(0, &[OF_MANY])];
 /// 2 ^ 27, and 683 turns are past it.
 const HEAVY: Sketch = (
     &[
-        (Shape::Loop(682, 1), 0, 65_536, 65_536, &[1, 3]),
+        (NodeForm::Loop(682, 1), 0, 65_536, 65_536, &[1, 3]),
         (
-            Shape::Map(None, 65_536, 1, &MANY, &MANY),
+            NodeForm::Map(None, 65_536, 1, &MANY, &MANY),
             1,
             65_536,
             65_536,
             &[2],
         ),
-        (Shape::Seq, 2, 1, 1, &[]),
-        (Shape::Seq, 3, 65_536, 1, &[]),
+        (NodeForm::Seq, 2, 1, 1, &[]),
+        (NodeForm::Seq, 3, 65_536, 1, &[]),
     ],
     &[
         ModuleKind::Loop,
@@ -190,7 +196,7 @@ const HEAVY: Sketch = (
     ],
 );
 
-const TOO_HEAVY: ModuleRow = (Shape::Loop(683, 1), 0, 65_536, 65_536, &[1, 3]);
+const TOO_HEAVY: ModuleRow = (NodeForm::Loop(683, 1), 0, 65_536, 65_536, &[1, 3]);
 
 #[test]
 fn depth_and_work_are_limited(rt: HostRuntime) -> Result<(), Fail> {
@@ -236,21 +242,21 @@ fn counts_are_those_of_the_nodes_outside_units(rt: HostRuntime) -> Result<(), Fa
 /// Reduces of five words: without a clause, and with one.
 const FREE: Sketch = (
     &[
-        (Shape::Reduce(None, 5, 1), 0, 5, 1, &[1]),
-        (Shape::Seq, 1, 2, 1, &[]),
+        (NodeForm::Reduce(None, 5, 1), 0, 5, 1, &[1]),
+        (NodeForm::Seq, 1, 2, 1, &[]),
     ],
     &[ModuleKind::Reduce, ModuleKind::Seq],
 );
 
 const FIXED: Sketch = (
     &[
-        (Shape::Reduce(Some(2), 5, 1), 0, 5, 1, &[1]),
-        (Shape::Seq, 1, 2, 1, &[]),
+        (NodeForm::Reduce(Some(2), 5, 1), 0, 5, 1, &[1]),
+        (NodeForm::Seq, 1, 2, 1, &[]),
     ],
     &[ModuleKind::Reduce, ModuleKind::Seq],
 );
 
-const TOO_MANY: ModuleRow = (Shape::Reduce(Some(8), 5, 1), 0, 5, 1, &[1]);
+const TOO_MANY: ModuleRow = (NodeForm::Reduce(Some(8), 5, 1), 0, 5, 1, &[1]);
 
 const FREE_COUNTS: [(&[u32], bool); 9] = [
     (&[0], false),

@@ -3,7 +3,7 @@
 use p3l_base::{Dim, NoMemory, Place};
 use p3l_model::{firings, is_outside, procs};
 use p3l_skel::{Counts, ModuleKind, Tree, lawful_counts, lawful_tree};
-use p3l_sketch::{Array, Shape, Sketch, counts_of, tree_with};
+use p3l_sketch::{Array, NodeForm, Sketch, counts_of, tree_with};
 use std::alloc::Global;
 use std::process::Abort;
 use std::test::Fail;
@@ -56,8 +56,8 @@ const PRODUCT: [Array; 1] = [(0, &[FIRST, SECOND])];
 
 const MAP: Sketch = (
     &[
-        (Shape::Map(None, 2, 2, &FACTORS, &PRODUCT), 0, 8, 4, &[1]),
-        (Shape::Seq, 1, 4, 1, &[]),
+        (NodeForm::Map(None, 2, 2, &FACTORS, &PRODUCT), 0, 8, 4, &[1]),
+        (NodeForm::Seq, 1, 4, 1, &[]),
     ],
     &[ModuleKind::Map, ModuleKind::Seq],
 );
@@ -71,8 +71,8 @@ fn a_map_scatters_and_gathers(rt: HostRuntime) -> Result<(), Fail> {
 
 const REDUCE: Sketch = (
     &[
-        (Shape::Reduce(None, 5, 1), 0, 5, 1, &[1]),
-        (Shape::Seq, 1, 2, 1, &[]),
+        (NodeForm::Reduce(None, 5, 1), 0, 5, 1, &[1]),
+        (NodeForm::Seq, 1, 2, 1, &[]),
     ],
     &[ModuleKind::Reduce, ModuleKind::Seq],
 );
@@ -87,19 +87,19 @@ fn a_reduce_folds_its_segments(rt: HostRuntime) -> Result<(), Fail> {
 /// Loops whose bodies are a seq and a farm.
 const LOOP: Sketch = (
     &[
-        (Shape::Loop(10, 4), 0, 2, 2, &[1, 2]),
-        (Shape::Seq, 1, 2, 2, &[]),
-        (Shape::Seq, 2, 2, 1, &[]),
+        (NodeForm::Loop(10, 4), 0, 2, 2, &[1, 2]),
+        (NodeForm::Seq, 1, 2, 2, &[]),
+        (NodeForm::Seq, 2, 2, 1, &[]),
     ],
     &[ModuleKind::Loop, ModuleKind::Seq, ModuleKind::Seq],
 );
 
 const LOOP_OF_FARM: Sketch = (
     &[
-        (Shape::Loop(10, 4), 0, 2, 2, &[1, 3]),
-        (Shape::Farm(Some(4)), 1, 2, 2, &[2]),
-        (Shape::Seq, 2, 2, 2, &[]),
-        (Shape::Seq, 3, 2, 1, &[]),
+        (NodeForm::Loop(10, 4), 0, 2, 2, &[1, 3]),
+        (NodeForm::Farm(Some(4)), 1, 2, 2, &[2]),
+        (NodeForm::Seq, 2, 2, 2, &[]),
+        (NodeForm::Seq, 3, 2, 1, &[]),
     ],
     &[
         ModuleKind::Loop,
@@ -118,10 +118,10 @@ fn a_loop_turns_its_body(rt: HostRuntime) -> Result<(), Fail> {
 
 const PIPE: Sketch = (
     &[
-        (Shape::Pipe, 0, 1, 1, &[1, 2]),
-        (Shape::Seq, 1, 1, 1, &[]),
-        (Shape::Farm(None), 2, 1, 1, &[3]),
-        (Shape::Seq, 3, 1, 1, &[]),
+        (NodeForm::Pipe, 0, 1, 1, &[1, 2]),
+        (NodeForm::Seq, 1, 1, 1, &[]),
+        (NodeForm::Farm(None), 2, 1, 1, &[3]),
+        (NodeForm::Seq, 3, 1, 1, &[]),
     ],
     &[
         ModuleKind::Pipe,

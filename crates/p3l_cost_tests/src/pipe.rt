@@ -5,7 +5,7 @@ use p3l_base::{List, NoMemory};
 use p3l_cert::CertRefusal;
 use p3l_cost::Costs;
 use p3l_skel::{ModuleKind, Tree};
-use p3l_sketch::{ModuleRow, Shape, tree_named};
+use p3l_sketch::{ModuleRow, NodeForm, tree_named};
 use std::alloc::Global;
 use std::process::Abort;
 use std::test::Fail;
@@ -75,10 +75,10 @@ pub fn text(alloc: Global) -> Result<Vec<u8>, NoMemory> {
 }
 
 const NODES: [ModuleRow; 4] = [
-    (Shape::Pipe, 3, 1, 1, &[1, 2]),
-    (Shape::Seq, 0, 1, 1, &[]),
-    (Shape::Farm(None), 2, 1, 1, &[3]),
-    (Shape::Seq, 1, 1, 1, &[]),
+    (NodeForm::Pipe, 3, 1, 1, &[1, 2]),
+    (NodeForm::Seq, 0, 1, 1, &[]),
+    (NodeForm::Farm(None), 2, 1, 1, &[3]),
+    (NodeForm::Seq, 1, 1, 1, &[]),
 ];
 
 const MODULES: [(&str, ModuleKind); 4] = [

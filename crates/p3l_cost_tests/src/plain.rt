@@ -1,14 +1,14 @@
 // The numbers of small trees by the formulas of the cost model, for all numbers of workers, and the
 // best of them.
 
-use crate::trees::{Row, Shape, Tokens, number_at};
+use crate::trees::{Row, RowForm, Tokens, number_at};
 use p3l_base::NoMemory;
 use std::alloc::Global;
 
 /// The most workers or segments that are tried: no more fit the processors.
 const MOST: u32 = 12;
 
-/// What a node comes to: its words, its ticks in a unit, and its processes and its service time
+/// Numbers of a node: its words, its ticks in a unit, and its processes and its service time
 /// outside units.
 #[derive(Clone, Copy, Drop)]
 struct Numbers {
@@ -27,7 +27,7 @@ const NOTHING: Numbers = Numbers {
     service: 0,
 };
 
-/// What the parts of a node come to: all their ticks and processes, the greatest service time, and
+/// Numbers of the parts of a node: all their ticks and processes, the greatest service time, and
 /// the first and the last of them.
 #[derive(Clone, Copy, Drop)]
 struct Parts {
@@ -101,22 +101,22 @@ fn greatest(a: u64, b: u64, c: u64) -> u64 {
 
 fn ticks(row: Row, parts: Parts) -> u64 {
     match row.shape {
-        Shape::Seq => row.cost as u64,
-        Shape::Comp => parts.ticks,
-        Shape::Map { elements, .. } => times(elements as u64, parts.ticks),
-        Shape::Reduce { len, .. } => times(len.saturating_sub(1) as u64, parts.ticks),
-        Shape::Pipe | Shape::Farm { .. } | Shape::Loop { .. } => 0,
+        RowForm::Seq => row.cost as u64,
+        RowForm::Comp => parts.ticks,
+        RowForm::Map { elements, .. } => times(elements as u64, parts.ticks),
+        RowForm::Reduce { len, .. } => times(len.saturating_sub(1) as u64, parts.ticks),
+        RowForm::Pipe | RowForm::Farm { .. } | RowForm::Loop { .. } => 0,
     }
 }
 
-fn procs(shape: Shape, count: u64, parts: Parts) -> u64 {
+fn procs(shape: RowForm, count: u64, parts: Parts) -> u64 {
     match shape {
-        Shape::Seq | Shape::Comp => 1,
-        Shape::Pipe => parts.procs,
-        Shape::Farm { .. } | Shape::Map { .. } => times(count, parts.procs).saturating_add(2),
-        Shape::Reduce { .. } if count == 1 => 1,
-        Shape::Reduce { .. } => times(2, count),
-        Shape::Loop { .. } => parts.procs.saturating_add(2),
+        RowForm::Seq | RowForm::Comp => 1,
+        RowForm::Pipe => parts.procs,
+        RowForm::Farm { .. } | RowForm::Map { .. } => times(count, parts.procs).saturating_add(2),
+        RowForm::Reduce { .. } if count == 1 => 1,
+        RowForm::Reduce { .. } => times(2, count),
+        RowForm::Loop { .. } => parts.procs.saturating_add(2),
     }
 }
 
@@ -174,19 +174,19 @@ fn loop_time(tokens: Tokens, row: Row, parts: Parts) -> u64 {
 
 fn service(tokens: Tokens, row: Row, count: u64, parts: Parts) -> u64 {
     match row.shape {
-        Shape::Seq | Shape::Comp => unit_time(tokens, row, parts),
-        Shape::Pipe => parts.slowest,
-        Shape::Farm { .. } => farm_time(tokens, row, count, parts),
-        Shape::Map { elements, .. } => map_time(tokens, row, elements as u64, count, parts),
-        Shape::Reduce { len, .. } => reduce_time(tokens, row, len as u64, count, parts),
-        Shape::Loop { .. } => loop_time(tokens, row, parts),
+        RowForm::Seq | RowForm::Comp => unit_time(tokens, row, parts),
+        RowForm::Pipe => parts.slowest,
+        RowForm::Farm { .. } => farm_time(tokens, row, count, parts),
+        RowForm::Map { elements, .. } => map_time(tokens, row, elements as u64, count, parts),
+        RowForm::Reduce { len, .. } => reduce_time(tokens, row, len as u64, count, parts),
+        RowForm::Loop { .. } => loop_time(tokens, row, parts),
     }
 }
 
 // The parts of a loop that are outside units: its body.
-fn outside_of(shape: Shape, parts: Parts) -> Parts {
+fn outside_of(shape: RowForm, parts: Parts) -> Parts {
     match shape {
-        Shape::Loop { .. } => Parts {
+        RowForm::Loop { .. } => Parts {
             ticks: parts.ticks,
             procs: parts.first.procs,
             slowest: parts.first.service,
@@ -235,10 +235,10 @@ fn span_to(workers: Option<u32>, high: u32, segments: bool) -> Option<Span> {
 fn span_of(row: Row) -> Option<Span> {
     match row.shape {
         _ if row.in_unit => None,
-        Shape::Farm { workers } => span_to(workers, MOST, false),
-        Shape::Map { workers, elements } => span_to(workers, elements, false),
-        Shape::Reduce { workers, len } => span_to(workers, len, true),
-        Shape::Seq | Shape::Comp | Shape::Pipe | Shape::Loop { .. } => None,
+        RowForm::Farm { workers } => span_to(workers, MOST, false),
+        RowForm::Map { workers, elements } => span_to(workers, elements, false),
+        RowForm::Reduce { workers, len } => span_to(workers, len, true),
+        RowForm::Seq | RowForm::Comp | RowForm::Pipe | RowForm::Loop { .. } => None,
     }
 }
 
@@ -254,7 +254,7 @@ fn spans_of(alloc: Global, rows: &[Row]) -> Result<Vec<Span>, NoMemory> {
 }
 
 impl Span {
-    // How many numbers there are.
+    // Counts the numbers in the span.
     fn many(self) -> u32 {
         self.high.saturating_sub(self.low).saturating_add(1)
     }
@@ -266,7 +266,7 @@ impl Span {
     }
 }
 
-// How many lists of numbers there are.
+// Counts the lists with one number of each span.
 fn lists(spans: &[Span]) -> u32 {
     let mut lists: u32 = 1;
     for span in spans {

@@ -6,9 +6,9 @@ use p3l_skel::{Form, Tree};
 use p3l_sketch::{add_node, cut_of, no_nodes};
 use std::alloc::Global;
 
-/// What a node does with an item. A map has `elements` in and out.
+/// Kinds of nodes. A map has `elements` in and out.
 #[derive(Clone, Copy, Drop)]
-pub enum Shape {
+pub enum RowForm {
     Seq,
     Comp,
     Pipe,
@@ -24,7 +24,7 @@ pub enum Shape {
 #[derive(Clone, Copy, Drop)]
 pub struct Row {
     pub parent: u32,
-    pub shape: Shape,
+    pub shape: RowForm,
     pub ins: u32,
     pub outs: u32,
     pub cost: u32,
@@ -39,7 +39,7 @@ pub struct Tokens {
 }
 
 /// A node outside units.
-pub fn node(parent: u32, shape: Shape, ins: u32, outs: u32) -> Row {
+pub fn node(parent: u32, shape: RowForm, ins: u32, outs: u32) -> Row {
     Row {
         parent,
         shape,
@@ -54,7 +54,7 @@ pub fn node(parent: u32, shape: Shape, ins: u32, outs: u32) -> Row {
 pub fn seq(parent: u32, ins: u32, outs: u32, ticks: u32) -> Row {
     Row {
         parent,
-        shape: Shape::Seq,
+        shape: RowForm::Seq,
         ins,
         outs,
         cost: ticks,
@@ -66,7 +66,7 @@ pub fn seq(parent: u32, ins: u32, outs: u32, ticks: u32) -> Row {
 pub fn turning(parent: u32, turns: u32, words: u32, expected: u32) -> Row {
     Row {
         parent,
-        shape: Shape::Loop { turns },
+        shape: RowForm::Loop { turns },
         ins: words,
         outs: words,
         cost: expected,
@@ -114,17 +114,17 @@ fn map_of(alloc: Global, row: Row, workers: Option<u32>, elements: u32) -> Resul
 
 fn form_of(alloc: Global, row: Row) -> Result<Form, NoMemory> {
     match row.shape {
-        Shape::Seq => Ok(Form::Seq),
-        Shape::Comp => Ok(Form::Comp),
-        Shape::Pipe => Ok(Form::Pipe),
-        Shape::Farm { workers } => Ok(Form::Farm { workers }),
-        Shape::Map { workers, elements } => map_of(alloc, row, workers, elements),
-        Shape::Reduce { workers, len } => Ok(Form::Reduce {
+        RowForm::Seq => Ok(Form::Seq),
+        RowForm::Comp => Ok(Form::Comp),
+        RowForm::Pipe => Ok(Form::Pipe),
+        RowForm::Farm { workers } => Ok(Form::Farm { workers }),
+        RowForm::Map { workers, elements } => map_of(alloc, row, workers, elements),
+        RowForm::Reduce { workers, len } => Ok(Form::Reduce {
             workers,
             len,
             elem: row.outs,
         }),
-        Shape::Loop { turns } => Ok(Form::Loop { turns, tokens: 4 }),
+        RowForm::Loop { turns } => Ok(Form::Loop { turns, tokens: 4 }),
     }
 }
 
@@ -152,14 +152,14 @@ pub fn tree_of(alloc: Global, rows: &[Row]) -> Result<Tree, NoMemory> {
 
 fn ticks_of(row: Row) -> u32 {
     match row.shape {
-        Shape::Seq => row.cost,
+        RowForm::Seq => row.cost,
         _ => 0,
     }
 }
 
 fn turns_of(row: Row) -> u32 {
     match row.shape {
-        Shape::Loop { .. } => row.cost,
+        RowForm::Loop { .. } => row.cost,
         _ => 1,
     }
 }

@@ -1,4 +1,4 @@
--- How many tokens a channel of an exported program holds.
+-- The capacity of a channel of an exported program, in tokens.
 use Rattle.std.specs.Prelude.{ℕ, ◌/◌, ◌+◌, if◌then◌else◌, Bool, List, [], ◌∷◌, max, min, Option, None, Some, slice_get, slice_index}
 use Rattle.p3l_skel.specs.declared.tree.Tree.{Tree}
 use Rattle.p3l_cost.specs.declared.costs.Costs.{Costs}
@@ -11,15 +11,15 @@ use Rattle.p3l_net.specs.Steps.{Ends}
 use Rattle.p3l_export.specs.declared.channels.ChannelRow.{ChannelRow}
 use Rattle.p3l_export.specs.Loads.{firing_price}
 
--- how many tokens make 10,000,000 ticks of work, where one takes these
+-- the number of tokens that make 10,000,000 ticks of work, if one takes these
 abbrev pub by_work : ℕ → ℕ
 by_work price = 10000000 / max 1 price
 
--- how many tokens of n words a mebibyte holds
+-- the number of tokens of n words in a mebibyte
 abbrev pub by_size : ℕ → ℕ
 by_size n = 131072 / max 1 n
 
--- how many tokens of n words are well held between processes of this price: from 2 to 64
+-- the capacity for tokens of n words between processes of this price: from 2 to 64
 abbrev pub tokens_for : (n price : ℕ) → ℕ
 tokens_for n price = max 2 (min 64 (min (by_work price) (by_size n)))
 

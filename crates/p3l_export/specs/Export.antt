@@ -16,7 +16,7 @@ abbrev pub linked_capacity : Option ℕ → ℕ
 linked_capacity None = 1
 linked_capacity (Some cap) = cap
 
--- whether capacities are chosen
+-- true exactly if capacities are chosen
 abbrev pub is_chosen : Option ℕ → Bool
 is_chosen None = true
 is_chosen (Some cap) = false

@@ -1,4 +1,4 @@
--- What holds of every exported program.
+-- Laws of every exported program.
 use Rattle.std.specs.Prelude.{ℕ, ◌≤◌, Bool, List, map}
 use Rattle.std.specs.List.{AllByRecursion}
 use Rattle.p3l_base.specs.Limits.{most_tokens}
@@ -16,7 +16,7 @@ use Rattle.p3l_export.specs.Capacity.{rows_of}
 abbrev pub IsRoom : ℕ → Type 0
 IsRoom n = (1 ≤ n) × (n ≤ most_tokens)
 
--- where the channels of a net hold at least a token and no more than the machine's limit, so do those of the program, chosen or not
+-- the program's channels hold at least a token and no more than the machine's limit, chosen or not, if those of the net do
 abbrev pub EveryCapacityIsInRange : Type 0
 EveryCapacityIsInRange =
     (tree : Tree) (costs : Costs) (net : Net) (ends : Ends) (widths : List Width) (chosen : Bool)
@@ -28,7 +28,7 @@ abbrev pub with_rows : Net → List ChannelRow → Net
 with_rows net rows =
     record { procs = net.procs; chans = map (λ (row : ChannelRow). record { cap = row.capacity; credits = row.credits }) rows }
 
--- where a net is typed for a tree, so is that of the program, whose channels may hold more
+-- the program's net, whose channels may hold more, is typed for a tree if the net is
 abbrev pub EveryExportedNetIsTyped : Type 0
 EveryExportedNetIsTyped =
     (tree : Tree) (costs : Costs) (net : Net) (ends : Ends) (widths : List Width) (chosen : Bool)

@@ -1,4 +1,4 @@
--- How many ticks of work each process has for one item of the stream, by the model's prices.
+-- The ticks of work that each process has for one item of the stream, by the model's prices.
 use Rattle.std.specs.Prelude.{ℕ, ◌+◌, ◌*◌, ◌/◌, List, length, map, slice_index}
 use Rattle.p3l_skel.specs.declared.tree.Tree.{Tree}
 use Rattle.p3l_skel.specs.Tree.{node_at}
@@ -30,7 +30,7 @@ ticks_row Join tree costs q = firing_price tree costs q
 ticks_row Head tree costs q = firing_price tree costs q
 ticks_row Tail tree costs q = firing_price tree costs q
 
--- how often a process of each kind fires for one token of its node
+-- the number of firings of a process of each kind for one token of its node
 abbrev pub firings_row : ProcKind → Tree → Costs → Proc → ℕ
 firings_row Source tree costs q = 1
 firings_row Sink tree costs q = 1

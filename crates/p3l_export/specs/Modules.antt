@@ -22,7 +22,7 @@ abbrev pub constant_text : ℤ → List ℕ
 constant_text number =
     if int_lt number (negsuc 9223372036854775806) then codes "INT64_MIN" else signed_decimal number
 
--- whether a module has a rescue number, and the number
+-- the text of a module's rescue number: 1 and the number, or two zeros without one
 abbrev pub rescue_text : Option ℤ → List ℕ
 rescue_text None = codes "0, 0"
 rescue_text (Some number) = codes "1, " ++ constant_text number

@@ -7,7 +7,7 @@ use Rattle.p3l_skel.specs.declared.tree.Form.TheVariants.{Seq, Comp, Pipe, Farm,
 use Rattle.p3l_skel.specs.declared.tree.Node.{Node}
 use Rattle.p3l_export.specs.Lines.{closed_table, numbers_line, table}
 
--- how the engine calls a form
+-- the engine's name of a form
 abbrev pub form_name : Form → List ℕ
 form_name Seq = codes "FORM_SEQ"
 form_name Comp = codes "FORM_COMP"
@@ -37,7 +37,7 @@ second_number (Map w cut) = cut.second
 second_number (Reduce w len elem) = elem
 second_number (Loop turns tokens) = tokens
 
--- how many slices an element of a map takes
+-- the number of slices of an element of a map
 abbrev pub in_slices : Form → ℕ
 in_slices Seq = 0
 in_slices Comp = 0
@@ -47,7 +47,7 @@ in_slices (Map w cut) = length cut.ins
 in_slices (Reduce w len elem) = 0
 in_slices (Loop turns tokens) = 0
 
--- how many slices its result fills
+-- the number of slices of its result
 abbrev pub out_slices : Form → ℕ
 out_slices Seq = 0
 out_slices Comp = 0

@@ -8,7 +8,7 @@ use Rattle.p3l_firing.specs.declared.process.ProcKind.TheVariants.{Source, Sink,
 use Rattle.p3l_export.specs.Lines.{closed_table, number_item, table}
 use Rattle.p3l_export.specs.Numbered.{numbered}
 
--- how the engine calls a kind of process
+-- the engine's name of a kind of process
 abbrev pub kind_name : ProcKind → List ℕ
 kind_name Source = codes "KIND_SOURCE"
 kind_name Sink = codes "KIND_SINK"

@@ -1,4 +1,4 @@
--- How many tokens go through each node for one item of the stream, as far as the model knows.
+-- The number of tokens that go through each node for one item of the stream, as far as the model knows.
 use Rattle.std.specs.Prelude.{ℕ, zero, suc, ◌*◌, List, [], ◌∷◌, min, max}
 use Rattle.std.specs.Int.{div_ceil}
 use Rattle.std.specs.List.{flat_map}
@@ -15,7 +15,7 @@ use Rattle.p3l_model.specs.Service.{expected_turns}
 abbrev pub capped : ℕ → ℕ
 capped n = min n 4611686018427387904
 
--- how many elements a form has, if it is that of a map
+-- the number of elements of a form, if it is that of a map
 abbrev pub elements_of : Form → ℕ
 elements_of Seq = 0
 elements_of Comp = 0

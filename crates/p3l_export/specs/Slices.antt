@@ -11,7 +11,7 @@ use Rattle.p3l_skel.specs.declared.tree.Form.TheVariants.{Seq, Comp, Pipe, Farm,
 use Rattle.p3l_skel.specs.declared.tree.Node.{Node}
 use Rattle.p3l_export.specs.Lines.{closed_table}
 
--- how the engine calls a place
+-- the engine's name of a place
 abbrev pub place_name : Place → List ℕ
 place_name Rest = codes "PLACE_REST"
 place_name First = codes "PLACE_FIRST"
@@ -29,7 +29,7 @@ dim_line dim = codes "    { " ++ (decimal dim.size ++ (codes ", " ++ (place_name
 abbrev pub dims_lines : Slice → List ℕ
 dims_lines slice = flat_map dim_line slice.dims
 
--- what the slices of a form are written as, where it is known for each of them: those in, then those out
+-- the text of the slices of a form, given the text of each slice: those in, then those out
 abbrev pub form_slices : (Slice → List ℕ) → Form → List ℕ
 form_slices text Seq = []
 form_slices text Comp = []

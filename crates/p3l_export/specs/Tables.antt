@@ -10,7 +10,7 @@ use Rattle.p3l_export.specs.Nodes.{nodes_text, parts_text}
 use Rattle.p3l_export.specs.Processes.{ends_text, processes_text}
 use Rattle.p3l_export.specs.Slices.{dims_text, slices_text}
 
--- how many rows the tables have
+-- the text of the numbers of rows in the tables
 unfoldable pub counts_text : (modules nodes processes channels : ℕ) → List ℕ
 counts_text modules nodes processes channels =
     codes "enum { MODULES = " ++ (decimal modules ++ (codes ", NODES = " ++ (decimal nodes ++ (codes ", PROCESSES = "

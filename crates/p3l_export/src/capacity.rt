@@ -1,4 +1,4 @@
-// How many tokens each channel holds.
+// The capacity of each channel, in tokens.
 
 ghost use Rattle.std.specs.Prelude.{◌≡◌, ◌≤◌, ◌<◌, ◌^◌, length, max};
 ghost use Rattle.p3l_base.specs.Memory.{IfGiven};

@@ -1,4 +1,4 @@
-// How many ticks of work each process has for one item of the stream.
+// The ticks of work that each process has for one item of the stream.
 
 ghost use Rattle.std.specs.Prelude.{◌≡◌, ◌≤◌, ◌+◌, ◌^◌, map, slice_index};
 ghost use Rattle.p3l_base.specs.Memory.{IfGiven};

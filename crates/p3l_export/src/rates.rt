@@ -1,4 +1,4 @@
-// How many tokens go through each node for one item of the stream.
+// The number of tokens that go through each node for one item of the stream.
 
 ghost use Rattle.std.specs.Prelude.{◌≡◌, ◌≤◌, ◌+◌, ◌*◌, ◌^◌, ◌++◌, max, min};
 ghost use Rattle.std.specs.Int.{div_ceil};

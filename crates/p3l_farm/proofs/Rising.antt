@@ -6,7 +6,7 @@ use Rattle.p3l_firing.specs.Token.{newest_tag}
 use Rattle.p3l_firing.specs.declared.token.Token.{Token}
 use Rattle.p3l_farm.specs.Farm.{all_above, rising}
 
--- what is above a number is above any lower one
+-- numbers above a number are above any lower one
 above_lower : (j k : ℕ) (xs : List Token) → j < k → all_above k xs ≡ true → all_above j xs ≡ true
 unfolding all_above
 above_lower j k [] l h = refl

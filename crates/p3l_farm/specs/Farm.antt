@@ -13,7 +13,7 @@ use Rattle.p3l_firing.specs.Token.{newest_tag}
 use Rattle.p3l_template.specs.Bag.{read, numbered}
 use Rattle.p3l_template.specs.Fan.{Fanned, fan_part, fan_shape, first_proc, last_proc}
 use Rattle.p3l_template.specs.Part.{Part, line, no_part, all_orderly, due}
-use Rattle.p3l_template.specs.Shape.{Shape, Role, Base}
+use Rattle.p3l_template.specs.Shape.{Blueprint, Role, Base}
 use Rattle.p3l_template.specs.Sum.{sum_of}
 use Rattle.p3l_template.specs.Units.{Units}
 
@@ -36,9 +36,9 @@ unfoldable pub joined : List (List Token) → List Token
 joined [] = []
 joined (l ∷ ls) = l ++ joined ls
 
--- what the farm shows of a state
+-- the farm's view of a state
 pub record View : Type 0 where
-  -- what Emit and Collect keep: the next number, and the one that is expected
+  -- the numbers in Emit and Collect: the next one, and the one that is expected
   pub next : ℕ
   pub least : ℕ
   -- the lines of the workers
@@ -78,7 +78,7 @@ view_of base parts s =
       output = s.tokens base.output;
     }
 
--- what a farm makes of its n workers
+-- a farm of n workers, as the node of a skeleton
 abbrev pub farmed : ℕ → Fanned
 farmed n =
     record {
@@ -94,7 +94,7 @@ abbrev pub farm_part : ℕ → Units → (ℕ → Role) → Base → List Part �
 farm_part n = fan_part n (farmed n)
 
 -- a farm of n workers
-abbrev pub farm_shape : (node n : ℕ) → Shape
+abbrev pub farm_shape : (node n : ℕ) → Blueprint
 farm_shape node n = fan_shape Emit Collect node n (farmed n)
 
 -- a node of a tree that is a farm of n workers

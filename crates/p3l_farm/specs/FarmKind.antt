@@ -7,16 +7,16 @@ use Rattle.p3l_template.specs.Bag.{read}
 use Rattle.p3l_template.specs.Finding.{Finding, Finds, bares}
 use Rattle.p3l_template.specs.Kind.{Kind}
 use Rattle.p3l_template.specs.Lines.{lines_by}
-use Rattle.p3l_template.specs.Shape.{Base, fan_seats}
+use Rattle.p3l_template.specs.Shape.{Base, fan_slots}
 use Rattle.p3l_template.specs.Width.{ins_width, outs_width, worker_widths}
 
--- what a farm of n workers shows of a state, without the outcomes and but for what waits and what has left
+-- the view of a farm of n workers, without the outcomes and but for what waits and what has left
 abbrev pub seen_of : ℕ → Base → State → List (List Token) → View
 seen_of n base s inner =
     record {
       next = (s.own base.proc).number;
       least = (s.own (base.proc + 1)).number;
-      lines = lines_by s (fan_seats base.chan (base.chan + n) n) inner;
+      lines = lines_by s (fan_slots base.chan (base.chan + n) n) inner;
       input = [];
       output = [];
     }

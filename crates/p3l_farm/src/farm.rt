@@ -12,11 +12,11 @@ ghost use Rattle.p3l_template.specs.laws.FanTyping.{rows_count};
 
 use crate::found::by_lines;
 use p3l_base::{List, NoMemory};
-use p3l_firing::{ProcKind, Token};
+use p3l_firing::{ProcKind, Shot, Token};
 use p3l_skel::Tree;
 use p3l_template::lines::all_lines;
 use p3l_template::width::{ins_width, outs_width, push_workers};
-use p3l_template::{Builder, Fan, Kind, Place, Ports, Seat, Snapshot, Template, Width};
+use p3l_template::{Builder, Fan, Kind, Ports, Site, Slot, Template, Width};
 use std::alloc::Global;
 
 /// A farm on demand: each token goes to the worker that has the fewest waiting, and all leave in the
@@ -85,8 +85,8 @@ impl Kind for FarmTemplate {
         self.fan().chan_count()
     }
 
-    fn seats(&self, alloc: Global, place: &Place) -> Result<List<Seat>, NoMemory> {
-        self.fan().seats(alloc, place.chan)
+    fn slots(&self, alloc: Global, place: &Site) -> Result<List<Slot>, NoMemory> {
+        self.fan().slots(alloc, place.chan)
     }
 
     fn push_widths(
@@ -112,13 +112,13 @@ impl Kind for FarmTemplate {
         &self,
         alloc: Global,
         _tree: &Tree,
-        snapshot: &Snapshot,
-        place: &Place,
+        shot: &Shot,
+        place: &Site,
         inner: &[List<Token>],
     ) -> Result<Option<List<Token>>, NoMemory> {
-        let lines = all_lines(alloc, snapshot, place.chan, self.workers, inner)?;
-        let next = snapshot.number(place.proc);
-        let least = snapshot.number(place.proc + 1);
+        let lines = all_lines(alloc, shot, place.chan, self.workers, inner)?;
+        let next = shot.number(place.proc as usize);
+        let least = shot.number(place.proc as usize + 1);
         by_lines(alloc, next, least, lines.as_slice())
     }
 

@@ -38,7 +38,7 @@ module _ (tree : Tree) (leaf : Leaf) (net : Net) where
   picks-after before c (p ∷ picks) =
       ap (λ x. after_picks tree leaf net x picks) (picked-after before c p) ∙ picks-after before (picked tree leaf net c p) picks
 
-  -- what follows a run goes from its state
+  -- picks after a run go on from its state
   pub goes_on-after : (c : Course) (picks : List ℕ) → after_picks tree leaf net c picks ≡ after_run c (run_from tree leaf net c.state picks)
   goes_on-after c picks =
       let zeros : c ≡ after_run c (course_from c.state) = ap₂ (λ f i. record c { fired = f; idle = i }) (omega arith) (omega arith) in

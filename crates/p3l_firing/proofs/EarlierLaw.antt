@@ -12,7 +12,7 @@ use Rattle.p3l_firing.specs.declared.token.Token.{Token}
 use Rattle.p3l_firing.specs.Lists.{has_first}
 use Rattle.p3l_firing.specs.Token.{has_trap}
 use Rattle.p3l_firing.specs.Nodes.{Leaf}
-use Rattle.p3l_firing.specs.State.{Own, State, front, push, pop, set_own, has_room, holding, gathering}
+use Rattle.p3l_firing.specs.State.{LocalState, State, front, push, pop, set_own, has_room, holding, gathering}
 use Rattle.p3l_firing.specs.Process.{in_of}
 use Rattle.p3l_firing.specs.Fire.{row_fire, fire_of, can_fire, fire}
 use Rattle.p3l_firing.specs.Run.{Course, picked, after_picks, course_from, run_from}
@@ -53,42 +53,42 @@ module _ (earlier : List Outcome) where
   sink-earlier s q =
       ap (λ es. record (pop s (in_of q 0)) { emitted = es }) (append_assoc earlier s.emitted ((front s (in_of q 0)).body ∷ []))
 
-  sent_to-earlier : (c : Option ℕ) (s : State) (p : ℕ) (o : Own) (q : Proc) → emit.sent_to c (with_earlier earlier s) p o q ≡ with_earlier earlier (emit.sent_to c s p o q)
+  sent_to-earlier : (c : Option ℕ) (s : State) (p : ℕ) (o : LocalState) (q : Proc) → emit.sent_to c (with_earlier earlier s) p o q ≡ with_earlier earlier (emit.sent_to c s p o q)
   unfolding emit.sent_to push pop set_own
   sent_to-earlier None s p o q = refl
   sent_to-earlier (Some c) s p o q = refl
 
-  emit-earlier : (net : Net) (s : State) (p : ℕ) (o : Own) (q : Proc) → emit.fire net (with_earlier earlier s) p o q ≡ with_earlier earlier (emit.fire net s p o q)
+  emit-earlier : (net : Net) (s : State) (p : ℕ) (o : LocalState) (q : Proc) → emit.fire net (with_earlier earlier s) p o q ≡ with_earlier earlier (emit.fire net s p o q)
   unfolding emit.fire
   emit-earlier net s p o q =
       ap (λ c. emit.sent_to c (with_earlier earlier s) p o q) (emptiest-same net (with_earlier earlier s) s q.outs (same_tokens s q.outs))
       ∙ sent_to-earlier (emit.emptiest net s q.outs) s p o q
 
-  taken_from-earlier : (c : Option ℕ) (s : State) (p : ℕ) (o : Own) (q : Proc) → collect.taken_from c (with_earlier earlier s) p o q ≡ with_earlier earlier (collect.taken_from c s p o q)
+  taken_from-earlier : (c : Option ℕ) (s : State) (p : ℕ) (o : LocalState) (q : Proc) → collect.taken_from c (with_earlier earlier s) p o q ≡ with_earlier earlier (collect.taken_from c s p o q)
   unfolding collect.taken_from push pop set_own
   taken_from-earlier None s p o q = refl
   taken_from-earlier (Some c) s p o q = refl
 
-  collect-earlier : (s : State) (p : ℕ) (o : Own) (q : Proc) → collect.fire (with_earlier earlier s) p o q ≡ with_earlier earlier (collect.fire s p o q)
+  collect-earlier : (s : State) (p : ℕ) (o : LocalState) (q : Proc) → collect.fire (with_earlier earlier s) p o q ≡ with_earlier earlier (collect.fire s p o q)
   unfolding collect.fire
   collect-earlier s p o q =
       ap (λ c. collect.taken_from c (with_earlier earlier s) p o q) (due-same (with_earlier earlier s) s o.number q.ins (same_tokens s q.ins))
       ∙ taken_from-earlier (collect.due_in s o.number q.ins) s p o q
 
-  turn-earlier : (turn : tail.Turn) (s : State) (p : ℕ) (o : Own) (q : Proc) (x : Token) → tail.take_turn turn (with_earlier earlier s) p o q x ≡ with_earlier earlier (tail.take_turn turn s p o q x)
+  turn-earlier : (turn : tail.Turn) (s : State) (p : ℕ) (o : LocalState) (q : Proc) (x : Token) → tail.take_turn turn (with_earlier earlier s) p o q x ≡ with_earlier earlier (tail.take_turn turn s p o q x)
   unfolding tail.take_turn push pop set_own
   turn-earlier (tail.Turn.Held outcome) s p o q x = refl
   turn-earlier tail.Turn.Again s p o q x = refl
 
-  release-earlier : (s : State) (p : ℕ) (o : Own) (q : Proc) → tail.release (with_earlier earlier s) p o q ≡ with_earlier earlier (tail.release s p o q)
+  release-earlier : (s : State) (p : ℕ) (o : LocalState) (q : Proc) → tail.release (with_earlier earlier s) p o q ≡ with_earlier earlier (tail.release s p o q)
   unfolding tail.release push pop set_own
   release-earlier s p o q = refl
 
-  can_release-earlier : (net : Net) (s : State) (o : Own) (q : Proc) → tail.can_release net (with_earlier earlier s) o q ≡ tail.can_release net s o q
+  can_release-earlier : (net : Net) (s : State) (o : LocalState) (q : Proc) → tail.can_release net (with_earlier earlier s) o q ≡ tail.can_release net s o q
   unfolding tail.can_release has_room
   can_release-earlier net s o q = refl
 
-  module _ (tree : Tree) (leaf : Leaf) (net : Net) (s : State) (p : ℕ) (o : Own) (q : Proc) where
+  module _ (tree : Tree) (leaf : Leaf) (net : Net) (s : State) (p : ℕ) (o : LocalState) (q : Proc) where
     scatter-earlier : scatter.fire tree (with_earlier earlier s) p o q ≡ with_earlier earlier (scatter.fire tree s p o q)
     unfolding scatter.fire scatter.element_sent push pop set_own
     scatter-earlier = cond-earlier (has_first o.held) (scatter.element_sent tree s p o q) (set_own (pop s (in_of q 0)) p (holding (front s (in_of q 0))))

@@ -1,4 +1,4 @@
--- What a run emits after what was emitted before it.
+-- Outcomes that a run emits after those emitted before it.
 use Rattle.std.proofs.Common.{◌≡◌, ℕ, true, false, List, [], ◌∷◌, ◌++◌, map, refl, sym, ap, ◌∙◌, append_assoc}
 use Rattle.std.proofs.lemmas.List.{append-nil}
 use Rattle.p3l_base.specs.declared.outcome.Outcome.{Outcome}
@@ -11,7 +11,7 @@ use Rattle.p3l_firing.specs.Nodes.{Leaf}
 use Rattle.p3l_firing.specs.State.{State}
 use Rattle.p3l_firing.specs.Run.{Course, run_from}
 use Rattle.p3l_firing.specs.Outcomes.{up_to_first_trap, IsPrefixOf}
-use Rattle.p3l_firing.specs.Carried.{Carry, whole, IsCarried}
+use Rattle.p3l_firing.specs.NetInvariants.{Invariants, whole, HasInvariants}
 use Rattle.p3l_firing.specs.Orderly.{Emits, left_from}
 use Rattle.p3l_firing.proofs.EarlierLaw.{run-earlier}
 use Rattle.p3l_firing.proofs.OrderlyLaw.{kept_run, kept_begins, kept_finished}
@@ -32,8 +32,8 @@ append_same : (es xs ys : List Outcome) → es ++ xs ≡ es ++ ys → xs ≡ ys
 append_same [] xs ys h = h
 append_same (e ∷ es) xs ys h = let k : es ++ xs ≡ es ++ ys = cc in append_same es xs ys k
 
-module _ (tree : Tree) (leaf : Leaf) (net : Net) (firings : ℕ) (carry : Carry) (laws : IsCarried tree leaf net firings carry)
-    (s : State) (picks : List ℕ) (orderly : carry.orderly s ≡ true) (untrapped : has_trap s.emitted ≡ false) where
+module _ (tree : Tree) (leaf : Leaf) (net : Net) (firings : ℕ) (invariants : Invariants) (laws : HasInvariants tree leaf net firings invariants)
+    (s : State) (picks : List ℕ) (orderly : invariants.orderly s ≡ true) (untrapped : has_trap s.emitted ≡ false) where
   abbrev from_none : State
   from_none = record s { emitted = [] }
 
@@ -41,7 +41,7 @@ module _ (tree : Tree) (leaf : Leaf) (net : Net) (firings : ℕ) (carry : Carry)
   more = (run_from tree leaf net from_none picks).state.emitted
 
   abbrev to_come : List Outcome
-  to_come = carry.to_come s ++ map (item tree leaf 0) s.unsent
+  to_come = invariants.to_come s ++ map (item tree leaf 0) s.unsent
 
   abbrev end : Course
   end = run_from tree leaf net s picks
@@ -61,14 +61,14 @@ module _ (tree : Tree) (leaf : Leaf) (net : Net) (firings : ℕ) (carry : Carry)
   more_all : end.state.emitted ≡ up_to_first_trap (s.emitted ++ to_come) → more ≡ up_to_first_trap to_come
   more_all h = append_same s.emitted _ _ (sym emitted_is ∙ h ∙ up_to-after s.emitted to_come untrapped)
 
-  pub emits : Emits tree net (left_from tree leaf carry s) s end.state
+  pub emits : Emits tree net (left_from tree leaf invariants s) s end.state
   unfolding whole
   emits =
-      let k = kept_run tree leaf net firings carry laws s orderly picks in
+      let k = kept_run tree leaf net firings invariants laws s orderly picks in
       let emitted = untrapped_is s.emitted untrapped in
       record {
         outcomes = more;
         emitted = emitted_is;
-        begins = more_begins (kept_begins tree leaf net firings carry laws s end k emitted);
-        all = λ stuck. more_all (kept_finished tree leaf net firings carry laws s end k emitted stuck);
+        begins = more_begins (kept_begins tree leaf net firings invariants laws s end k emitted);
+        all = λ stuck. more_all (kept_finished tree leaf net firings invariants laws s end k emitted stuck);
       }

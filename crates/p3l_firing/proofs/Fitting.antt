@@ -12,7 +12,7 @@ use Rattle.p3l_firing.specs.declared.net.Net.{Net}
 use Rattle.p3l_firing.specs.declared.token.Token.{Token}
 use Rattle.p3l_firing.specs.Lists.{has_first, first_or, rest_of}
 use Rattle.p3l_firing.specs.Token.{credit}
-use Rattle.p3l_firing.specs.State.{Own, State, front, pop, push, set_own, has_room, at_first, chan_at}
+use Rattle.p3l_firing.specs.State.{LocalState, State, front, pop, push, set_own, has_room, at_first, chan_at}
 use Rattle.p3l_firing.specs.Widths.{Widths, Carries, FitsToken, AllFit}
 use Rattle.p3l_firing.specs.Typed.{FitsOwn, IsTyped, IsFitting}
 
@@ -36,7 +36,7 @@ pub all_first : {B : Type 0} (P : B → Type 0) (none : B) (xs : List B) → has
 all_first P none [] h all = cc
 all_first P none (x ∷ xs) h all = all.0
 
--- what holds of each element of joined lists holds of each of one
+-- a property of each element of joined lists holds of each element of one of them
 pub all_of_one : {A B : Type 0} (P : B → Type 0) (f : A → List B) (xs : List A) (i : ℕ) (x : A) → slice_get xs i ≡ Some x → AllByRecursion P (flat_map f xs) → AllByRecursion P (f x)
 all_of_one P f [] i x h all = cc
 all_of_one P f (y ∷ ys) zero x h all = subst (λ z. AllByRecursion P (f z)) (let e : y ≡ x = cc in e) (all_left P (f y) _ all)
@@ -46,7 +46,7 @@ pub rest_is_shorter : {A : Type 0} (xs : List A) → length (rest_of xs) ≤ len
 rest_is_shorter [] = omega arith
 rest_is_shorter (x ∷ xs) = omega arith
 
--- where a token was taken there is still room where there was
+-- a channel with room still has room after a token was taken
 pub room-pop : (net : Net) (s : State) (a c : ℕ) → has_room net s c ≡ true → has_room net (pop s a) c ≡ true
 unfolding has_room pop
 room-pop net s a c h =
@@ -59,7 +59,7 @@ room-pop net s a c h =
       | inr e ↦ subst (λ ts. nat_lt (length ts) (chan_at net c).cap ≡ true) (sym (at-other s.tokens a _ c e)) h
     ]
 
--- where a token was put into one channel, another has as much room as before
+-- a channel with room still has room after a token was put into another
 pub room-push : (net : Net) (s : State) (a c : ℕ) (token : Token) → c ≢ a → has_room net s c ≡ true → has_room net (push s a token) c ≡ true
 unfolding has_room push
 room-push net s a c token e h = subst (λ ts. nat_lt (length ts) (chan_at net c).cap ≡ true) (sym (at-other s.tokens a _ c e)) h
@@ -95,8 +95,8 @@ module _ {tree : Tree} {net : Net} {widths : Widths} (s : State) (fit : IsFittin
       let all : AllFit widths c (rest_of (s.tokens c)) = all_rest _ (s.tokens c) (fit.tokens c) in
       record { rooms = rooms_at_all c _ all few; tokens = tokens_at_all c _ all few; owns = fit.owns; unsent = fit.unsent }
 
-  -- what one process keeps, of the kind that is there
-  pub fitting-own : (p : ℕ) (q : Proc) (k : ProcKind) (o : Own) → slice_get net.procs p ≡ Some q → q.kind ≡ k → FitsOwn k tree widths q o → IsFitting tree net widths (set_own s p o)
+  -- the state still fits with a new local state of one process that fits its kind
+  pub fitting-own : (p : ℕ) (q : Proc) (k : ProcKind) (o : LocalState) → slice_get net.procs p ≡ Some q → q.kind ≡ k → FitsOwn k tree widths q o → IsFitting tree net widths (set_own s p o)
   unfolding set_own
   fitting-own p q k o stands kind h = record {
     rooms = fit.rooms;

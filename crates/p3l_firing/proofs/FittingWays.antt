@@ -8,7 +8,7 @@ use Rattle.p3l_firing.specs.declared.process.ProcKind.{ProcKind}
 use Rattle.p3l_firing.specs.declared.process.ProcKind.TheVariants as kinds
 use Rattle.p3l_firing.specs.declared.net.Net.{Net}
 use Rattle.p3l_firing.specs.Nodes.{Leaf}
-use Rattle.p3l_firing.specs.State.{Own, State}
+use Rattle.p3l_firing.specs.State.{LocalState, State}
 use Rattle.p3l_firing.specs.Typed.{FitsKind, FitsOwn, IsTyped, IsFitting}
 use Rattle.p3l_firing.specs.Ways.{eyes_of, row_ways, IsStrict, MayFire}
 use Rattle.p3l_firing.specs.kinds.Tail.{can_release}
@@ -21,14 +21,14 @@ use Rattle.p3l_firing.proofs.row.Head as head
 use Rattle.p3l_firing.proofs.row.Tail as tail
 
 module _ (tree : Tree) (leaf : Leaf) (gives : GivesOuts tree leaf) (net : Net) (typed : IsTyped tree net) (s : State) (fit : IsFitting tree net typed.widths s) where
-  strict_fits : (p : ℕ) (o : Own) (q : Proc) (k : ProcKind) (t : State) → slice_get net.procs p ≡ Some q → q.kind ≡ k →
+  strict_fits : (p : ℕ) (o : LocalState) (q : Proc) (k : ProcKind) (t : State) → slice_get net.procs p ≡ Some q → q.kind ≡ k →
       FitsKind k tree typed.widths q → FitsOwn k tree typed.widths q o → IsStrict k →
       row_ways k tree leaf (eyes_of net s) s p o q t → IsFitting tree net typed.widths t
   strict_fits p o q k t stands kind fits keeps strict w =
       let r = strict_row net tree leaf s t p o q k strict w in
       subst (IsFitting tree net typed.widths) (sym r.1) (fits_row tree leaf gives net typed s fit p o q k stands kind fits keeps r.0)
 
-  ways_fit : (p : ℕ) (o : Own) (q : Proc) (k : ProcKind) (t : State) → slice_get net.procs p ≡ Some q → q.kind ≡ k →
+  ways_fit : (p : ℕ) (o : LocalState) (q : Proc) (k : ProcKind) (t : State) → slice_get net.procs p ≡ Some q → q.kind ≡ k →
       FitsKind k tree typed.widths q → FitsOwn k tree typed.widths q o → row_ways k tree leaf (eyes_of net s) s p o q t →
       IsFitting tree net typed.widths t
   unfolding row_ways can_release

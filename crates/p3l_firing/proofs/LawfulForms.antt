@@ -1,4 +1,4 @@
--- What the form of a lawful node says of its parts.
+-- Facts about the parts of a lawful node, from its form.
 use Rattle.std.proofs.Common.{◌≡◌, ℕ, ℤ, zero, suc, ◌*◌, ◌<◌, ◌≤◌, List, [], ◌∷◌, length, Option, slice_index, sym, ap, ◌∙◌, subst, arith}
 use Rattle.std.proofs.Math.Nat.{mul-zero, mul_comm}
 use Rattle.p3l_base.specs.declared.cut.Cut.{Cut}

@@ -14,10 +14,10 @@ pub mod RoundRobinLaw
 pub mod WaysLaw
 pub mod FittingWays
 pub mod OrderlyLaw
-pub mod CarriedLaw
+pub mod InvariantsLaw
 pub mod CutLaw
 pub mod EarlierLaw
 pub mod EmitsLaw
 pub mod SingleTyped
-pub mod SingleCarried
+pub mod SingleInvariants
 pub mod Hand

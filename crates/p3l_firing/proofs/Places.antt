@@ -1,4 +1,4 @@
--- Where channels are among those of a process, and that no channel is there twice.
+-- Places of channels among those of a process; no channel is there twice.
 use Rattle.std.proofs.Common.{◌≡◌, ◌≢◌, ℕ, zero, suc, ◌+◌, ◌<◌, ◌≤◌, ◌%◌, ◌==◌, List, [], ◌∷◌, ◌++◌, length, Some, slice_get, get_or, cond, refl, sym, ap, subst, arith, inl, inr, eq-eqb}
 use Rattle.std.specs.List.{AllByRecursion, flat_map}
 use Rattle.std.proofs.lemmas.Bool.{cond-true}
@@ -61,7 +61,7 @@ part_counted f (y ∷ ys) c (suc i) x e =
     let later = part_counted f ys c i x e in
     omega (arith, split, later)
 
--- where each channel is counted once, the first of a process is none of its later ones
+-- the first channel of a process is none of its later ones if each channel is counted once
 pub first_apart : (f : Proc → List ℕ) (xs : List Proc) (c i : ℕ) (x : Proc) (cs : List ℕ) → slice_get xs i ≡ Some x → f x ≡ c ∷ cs → times c (flat_map f xs) ≡ 1 → (d : ℕ) → Has cs d → c ≢ d
 first_apart f xs c i x cs e is once d h = λ same.
     let twice : 2 ≤ times c (c ∷ cs) = twice_counted cs c (subst (Has cs) (sym same) h) in

@@ -48,7 +48,7 @@ neither None b h = (refl, h)
 neither (Some x) b h = cc
 
 module _ (tree : Tree) (net : Net) (s : State) where
-  -- what is picked can fire
+  -- a picked process can fire
   pub next_can : (from p : ℕ) → next_of tree net s from ≡ Some p → can_fire tree net s p ≡ true
   next_can from p h = find_passes (can_fire tree net s) (in_turn (length net.procs) from) p h
 
@@ -59,7 +59,7 @@ module _ (tree : Tree) (net : Net) (s : State) where
         | inr cannot ↦ cannot
       ]
 
-  -- where nothing is picked, nothing can fire
+  -- nothing can fire if nothing is picked
   pub next_stuck : (from : ℕ) → from < length net.procs → next_of tree net s from ≡ None → IsStuck tree net s
   next_stuck from there h = λ p.
       let none = neither _ _ (sym (find-append (can_fire tree net s) (range_with_len from (length net.procs - from)) (range_with_len 0 from)) ∙ h) in

@@ -48,7 +48,7 @@ and_right_true true y h k = cc
 and_right_true false y h k = refl
 
 module _ (tree : Tree) (net : Net) (s : State) (p : ℕ) where
-  -- where no process is, none can fire
+  -- a number without a process is not ready
   pub none_ready : slice_get net.procs p ≡ None → is_ready tree net s p ≡ false
   unfolding is_ready ready_of
   none_ready h = ap (λ o. ready_of o tree net s (s.own p)) h
@@ -62,7 +62,7 @@ module _ (tree : Tree) (net : Net) (s : State) (p : ℕ) where
     unfolding fire fire_of
     fire_at leaf = ap (λ o. fire_of o tree leaf net s p (s.own p)) stands
 
-  -- what can fire is ready, and no trap was emitted
+  -- a process that can fire is ready, and no trap was emitted
   pub ready_from_can : can_fire tree net s p ≡ true → is_ready tree net s p ≡ true
   unfolding can_fire
   ready_from_can h = (and_parts _ _ h).1
@@ -71,18 +71,18 @@ module _ (tree : Tree) (net : Net) (s : State) (p : ℕ) where
   unfolding can_fire
   calm_from_can h = (and_parts _ _ h).0
 
-  -- where no trap was emitted, what cannot fire is not ready
+  -- a process that cannot fire is not ready if no trap was emitted
   pub not_ready : has_trap s.emitted ≡ false → can_fire tree net s p ≡ false → is_ready tree net s p ≡ false
   unfolding can_fire
-  not_ready calm h = and_left_true _ _ (not_from_false _ calm) h
+  not_ready untrapped h = and_left_true _ _ (not_from_false _ untrapped) h
 
--- where process q is at p, p can fire exactly as the row of its kind says, if no trap was emitted
+-- process q at p can fire exactly as the row of its kind says, if no trap was emitted
 module _ (tree : Tree) (net : Net) (s : State) (p : ℕ) (q : Proc) (stands : slice_get net.procs p ≡ Some q) where
   pub can_at : can_fire tree net s p ≡ true → (not (has_trap s.emitted) ≡ true) × (row_can q.kind tree net s (s.own p) q ≡ true)
   can_at h = (calm_from_can tree net s p h, sym (ready_at tree net s p q stands) ∙ ready_from_can tree net s p h)
 
   pub cannot_at : has_trap s.emitted ≡ false → can_fire tree net s p ≡ false → row_can q.kind tree net s (s.own p) q ≡ false
-  cannot_at calm h = sym (ready_at tree net s p q stands) ∙ not_ready tree net s p calm h
+  cannot_at untrapped h = sym (ready_at tree net s p q stands) ∙ not_ready tree net s p untrapped h
 
 -- an empty channel with a capacity has room
 pub room_when_empty : (net : Net) (s : State) (c : ℕ) → s.tokens c ≡ [] → 0 < (chan_at net c).cap → has_room net s c ≡ true

@@ -22,7 +22,7 @@ first_part : (Is : ℕ → ℕ → Type 0) (parts : List ℕ) (from next : ℕ) 
 first_part Is [] from next some subtrees = absurd (omega arith)
 first_part Is (p ∷ parts) from next some subtrees = (subtrees.1.0, subtrees.1.1)
 
--- what is sequential is so at the depth of its subtree
+-- a sequential node is so at the depth of its subtree
 module _ (tree : Tree) (lawful : IsLawfulTree tree) where
   by_row : (form : Form) (ins outs : ℕ) (parts : List ℕ) (a b : Bool) → IsLawfulForm tree form ins outs parts → (0 < length parts → a ≡ true → b ≡ true) → sequential_row form a ≡ true → sequential_row form b ≡ true
   by_row Seq ins outs parts a b f h e = refl

@@ -11,7 +11,7 @@ use Rattle.p3l_firing.specs.declared.token.Token.{Token}
 use Rattle.p3l_firing.specs.Lists.{has_first}
 use Rattle.p3l_firing.specs.Token.{has_trap}
 use Rattle.p3l_firing.specs.Nodes.{Leaf}
-use Rattle.p3l_firing.specs.State.{Own, State}
+use Rattle.p3l_firing.specs.State.{LocalState, State}
 use Rattle.p3l_firing.specs.Process.{in_of}
 use Rattle.p3l_firing.specs.Fire.{row_can, row_fire, ready_of, fire_of, is_ready, can_fire, fire}
 use Rattle.p3l_firing.specs.Ways.{Eyes, eyes_of, Knows, Deals, Collects, SendsRound, LetsIn, LetsOut, TakesTurn, row_ways, ways_of, Sees, MayFire, IsStrict}
@@ -31,7 +31,7 @@ use Rattle.p3l_firing.proofs.ChoiceLaw.{emptiest_is, due_in_is}
 use Rattle.p3l_firing.proofs.Rows.{ready_at, fire_at}
 
 -- OF WHICH KINDS THERE IS ONE WAY
-pub strict_row : (net : Net) (tree : Tree) (leaf : Leaf) (s t : State) (p : ℕ) (o : Own) (q : Proc) (k : ProcKind) → IsStrict k →
+pub strict_row : (net : Net) (tree : Tree) (leaf : Leaf) (s t : State) (p : ℕ) (o : LocalState) (q : Proc) (k : ProcKind) → IsStrict k →
     row_ways k tree leaf (eyes_of net s) s p o q t → (row_can k tree net s o q ≡ true) × (t ≡ row_fire k tree leaf net s p o q)
 unfolding IsStrict row_ways row_can row_fire source.can sink.can run.can scatter.can gather.can split.can fold_gather.can join.can
 strict_row net tree leaf s t p o q kinds.Source h w = w
@@ -97,7 +97,7 @@ unfolding collect.front_is
 front_full n [] e = cc
 front_full n (t ∷ ts) e = refl
 
-module _ (tree : Tree) (leaf : Leaf) (net : Net) (s : State) (p : ℕ) (o : Own) (q : Proc) where
+module _ (tree : Tree) (leaf : Leaf) (net : Net) (s : State) (p : ℕ) (o : LocalState) (q : Proc) where
   emit_way : emit.can net s q ≡ true → Deals (eyes_of net s) s p o q (emit.fire net s p o q)
   unfolding emit.can emit.fire
   emit_way h =
@@ -158,18 +158,18 @@ module _ (tree : Tree) (leaf : Leaf) (net : Net) (s : State) (p : ℕ) (o : Own)
   pub row_way : (k : ProcKind) → has_trap s.emitted ≡ false → row_can k tree net s o q ≡ true →
       row_ways k tree leaf (eyes_of net s) s p o q (row_fire k tree leaf net s p o q)
   unfolding row_ways row_can row_fire source.can sink.can run.can scatter.can gather.can split.can fold_gather.can join.can
-  row_way kinds.Source calm h = (h, refl)
-  row_way kinds.Sink calm h = (calm, h, refl)
-  row_way kinds.Run calm h = (h, refl)
-  row_way kinds.Emit calm h = emit_way h
-  row_way kinds.Collect calm h = collect_way h
-  row_way kinds.Scatter calm h = (h, refl)
-  row_way kinds.Gather calm h = (h, refl)
-  row_way kinds.Split calm h = (h, refl)
-  row_way kinds.FoldGather calm h = (h, refl)
-  row_way kinds.Join calm h = (h, refl)
-  row_way kinds.Head calm h = head_way h
-  row_way kinds.Tail calm h = tail_way h
+  row_way kinds.Source untrapped h = (h, refl)
+  row_way kinds.Sink untrapped h = (untrapped, h, refl)
+  row_way kinds.Run untrapped h = (h, refl)
+  row_way kinds.Emit untrapped h = emit_way h
+  row_way kinds.Collect untrapped h = collect_way h
+  row_way kinds.Scatter untrapped h = (h, refl)
+  row_way kinds.Gather untrapped h = (h, refl)
+  row_way kinds.Split untrapped h = (h, refl)
+  row_way kinds.FoldGather untrapped h = (h, refl)
+  row_way kinds.Join untrapped h = (h, refl)
+  row_way kinds.Head untrapped h = head_way h
+  row_way kinds.Tail untrapped h = tail_way h
 
   -- WHERE THERE IS A WAY THE PROCESS IS READY
   emit_can : (t : State) → Deals (eyes_of net s) s p o q t → emit.can net s q ≡ true
@@ -213,7 +213,7 @@ cond_more : (b x y v w : Bool) → (x ≡ true → v ≡ true) → (y ≡ true �
 cond_more true x y v w f g h = f h
 cond_more false x y v w f g h = g h
 
-module _ (tree : Tree) (leaf : Leaf) (e f : Eyes) (more : Knows e f) (s : State) (p : ℕ) (o : Own) (q : Proc) (t : State) where
+module _ (tree : Tree) (leaf : Leaf) (e f : Eyes) (more : Knows e f) (s : State) (p : ℕ) (o : LocalState) (q : Proc) (t : State) where
   pub more_ways : (k : ProcKind) → row_ways k tree leaf e s p o q t → row_ways k tree leaf f s p o q t
   unfolding row_ways
   more_ways kinds.Source w = (and_more _ _ _ _ (λ h. h) (more.rooms _) w.0, w.1)
@@ -236,7 +236,7 @@ module _ (tree : Tree) (leaf : Leaf) (e f : Eyes) (more : Knows e f) (s : State)
 
 -- OF A WHOLE NET
 module _ (tree : Tree) (leaf : Leaf) (net : Net) where
-  of_more : (e f : Eyes) → Knows e f → (s : State) (p : ℕ) (o : Own) (t : State) (q : Option Proc) →
+  of_more : (e f : Eyes) → Knows e f → (s : State) (p : ℕ) (o : LocalState) (t : State) (q : Option Proc) →
       ways_of q tree leaf e s p o t → ways_of q tree leaf f s p o t
   unfolding ways_of
   of_more e f more s p o t None w = w
@@ -247,11 +247,11 @@ module _ (tree : Tree) (leaf : Leaf) (net : Net) where
   unfolding Sees
   sees_more e f more s p t w = of_more e f more s p (s.own p) t (slice_get net.procs p) w
 
-  of_can : (s : State) (p : ℕ) (o : Own) (q : Option Proc) → has_trap s.emitted ≡ false → ready_of q tree net s o ≡ true →
+  of_can : (s : State) (p : ℕ) (o : LocalState) (q : Option Proc) → has_trap s.emitted ≡ false → ready_of q tree net s o ≡ true →
       ways_of q tree leaf (eyes_of net s) s p o (fire_of q tree leaf net s p o)
   unfolding ready_of ways_of fire_of
-  of_can s p o None calm h = cc
-  of_can s p o (Some q) calm h = row_way tree leaf net s p o q q.kind calm h
+  of_can s p o None untrapped h = cc
+  of_can s p o (Some q) untrapped h = row_way tree leaf net s p o q q.kind untrapped h
 
   -- the firing by the table is one of the ways
   pub fire_is_a_way : (s : State) (p : ℕ) → can_fire tree net s p ≡ true → MayFire tree leaf net s p (fire tree leaf net s p)
@@ -260,7 +260,7 @@ module _ (tree : Tree) (leaf : Leaf) (net : Net) where
       let both = and_parts _ _ h in
       of_can s p (s.own p) (slice_get net.procs p) (not-true _ both.0) both.1
 
-  of_ready : (s : State) (p : ℕ) (o : Own) (t : State) (q : Option Proc) → ways_of q tree leaf (eyes_of net s) s p o t →
+  of_ready : (s : State) (p : ℕ) (o : LocalState) (t : State) (q : Option Proc) → ways_of q tree leaf (eyes_of net s) s p o t →
       ready_of q tree net s o ≡ true
   unfolding ready_of ways_of
   of_ready s p o t None w = absurd w

@@ -28,7 +28,7 @@ use Rattle.p3l_firing.specs.declared.net.Net.{Net}
 use Rattle.p3l_firing.specs.Lists.{has_first}
 use Rattle.p3l_firing.specs.Token.{has_trap}
 use Rattle.p3l_firing.specs.Nodes.{Leaf}
-use Rattle.p3l_firing.specs.State.{Own, State, fresh, first_state, with_rest, IsFilled}
+use Rattle.p3l_firing.specs.State.{LocalState, State, fresh, first_state, with_rest, IsFilled}
 use Rattle.p3l_firing.specs.Process.{Has, IsAt, out_of}
 use Rattle.p3l_firing.specs.Widths.{Widths}
 use Rattle.p3l_firing.specs.Fire.{row_can, row_fire, row_reads, ready_of, fire_of, is_ready, can_fire, fire}
@@ -52,7 +52,7 @@ use Rattle.p3l_firing.proofs.row.Head as head
 use Rattle.p3l_firing.proofs.row.Tail as tail
 
 -- a process that fits reads only its own channels
-pub reads-own : (tree : Tree) (widths : Widths) (o : Own) (q : Proc) (k : ProcKind) → FitsKind k tree widths q → AllByRecursion (IsAt (Some q)) (row_reads k o q)
+pub reads-own : (tree : Tree) (widths : Widths) (o : LocalState) (q : Proc) (k : ProcKind) → FitsKind k tree widths q → AllByRecursion (IsAt (Some q)) (row_reads k o q)
 unfolding row_reads
 reads-own tree widths o q kinds.Source fits = source.own_reads tree widths q fits
 reads-own tree widths o q kinds.Sink fits = sink.own_reads tree widths q fits
@@ -68,7 +68,7 @@ reads-own tree widths o q kinds.Head fits = head.own_reads tree widths q fits
 reads-own tree widths o q kinds.Tail fits = tail.own_reads tree widths q fits
 
 -- states that are alike where a row reads allow the same
-pub row-alike : (net : Net) (s t : State) (tree : Tree) (o : Own) (q : Proc) (k : ProcKind) → SameIn s t (row_reads k o q) → (k ≡ kinds.Source → has_first s.unsent ≡ has_first t.unsent) → row_can k tree net s o q ≡ row_can k tree net t o q
+pub row-alike : (net : Net) (s t : State) (tree : Tree) (o : LocalState) (q : Proc) (k : ProcKind) → SameIn s t (row_reads k o q) → (k ≡ kinds.Source → has_first s.unsent ≡ has_first t.unsent) → row_can k tree net s o q ≡ row_can k tree net t o q
 unfolding row_can row_reads
 row-alike net s t tree o q kinds.Source same item = source.alike net s t q same (item refl)
 row-alike net s t tree o q kinds.Sink same item = sink.alike s t q same
@@ -84,7 +84,7 @@ row-alike net s t tree o q kinds.Head same item = head.alike net s t q same
 row-alike net s t tree o q kinds.Tail same item = tail.alike net s t o q same
 
 module _ (tree : Tree) (leaf : Leaf) (net : Net) (s : State) (rest : List (List ℤ)) where
-  row_fire-rest : (p : ℕ) (o : Own) (q : Proc) (k : ProcKind) → row_can k tree net s o q ≡ true → row_fire k tree leaf net (with_rest s rest) p o q ≡ with_rest (row_fire k tree leaf net s p o q) rest
+  row_fire-rest : (p : ℕ) (o : LocalState) (q : Proc) (k : ProcKind) → row_can k tree net s o q ≡ true → row_fire k tree leaf net (with_rest s rest) p o q ≡ with_rest (row_fire k tree leaf net s p o q) rest
   unfolding row_can row_fire
   row_fire-rest p o q kinds.Source can = source.rest_stays net s rest q can
   row_fire-rest p o q kinds.Sink can = sink.rest_stays s rest q
@@ -99,7 +99,7 @@ module _ (tree : Tree) (leaf : Leaf) (net : Net) (s : State) (rest : List (List 
   row_fire-rest p o q kinds.Head can = head.rest_stays s rest p o q
   row_fire-rest p o q kinds.Tail can = tail.rest_stays tree leaf net s rest p o q
 
-  fire_of-rest : (p : ℕ) (o : Own) (q : Option Proc) → ready_of q tree net s o ≡ true → fire_of q tree leaf net (with_rest s rest) p o ≡ with_rest (fire_of q tree leaf net s p o) rest
+  fire_of-rest : (p : ℕ) (o : LocalState) (q : Option Proc) → ready_of q tree net s o ≡ true → fire_of q tree leaf net (with_rest s rest) p o ≡ with_rest (fire_of q tree leaf net s p o) rest
   unfolding ready_of fire_of
   fire_of-rest p o None can = refl
   fire_of-rest p o (Some q) can = row_fire-rest p o q q.kind can
@@ -124,7 +124,7 @@ module _ (tree : Tree) (net : Net) (s : State) (rest : List (List ℤ)) (filled 
   unfolding with_rest
   same_item = first_of_more s.unsent rest filled
 
-  ready_of-rest : (o : Own) (q : Option Proc) → ready_of q tree net (with_rest s rest) o ≡ ready_of q tree net s o
+  ready_of-rest : (o : LocalState) (q : Option Proc) → ready_of q tree net (with_rest s rest) o ≡ ready_of q tree net s o
   unfolding ready_of
   ready_of-rest o None = refl
   ready_of-rest o (Some q) = row-alike net (with_rest s rest) s tree o q q.kind (same_tokens _) (λ e. same_item)
@@ -161,7 +161,7 @@ module _ (tree : Tree) (leaf : Leaf) (gives : GivesOuts tree leaf) (net : Net) (
       has_first_out cs long = has-nth cs 0 (omega (arith, long))
 
   module _ (s : State) (fit : IsFitting tree net typed.widths s) where
-    pub fits_row : (p : ℕ) (o : Own) (q : Proc) (k : ProcKind) → slice_get net.procs p ≡ Some q → q.kind ≡ k → FitsKind k tree typed.widths q → FitsOwn k tree typed.widths q o → row_can k tree net s o q ≡ true → IsFitting tree net typed.widths (row_fire k tree leaf net s p o q)
+    pub fits_row : (p : ℕ) (o : LocalState) (q : Proc) (k : ProcKind) → slice_get net.procs p ≡ Some q → q.kind ≡ k → FitsKind k tree typed.widths q → FitsOwn k tree typed.widths q o → row_can k tree net s o q ≡ true → IsFitting tree net typed.widths (row_fire k tree leaf net s p o q)
     unfolding row_can row_fire
     fits_row p o q kinds.Source stands kind fits keeps can = source.fits s q fit fits can
     fits_row p o q kinds.Sink stands kind fits keeps can = sink.fits s q fit

@@ -1,4 +1,4 @@
--- Which channels an emit and a collect choose.
+-- The channels that an emit and a collect choose.
 use Rattle.std.specs.Prelude.{◌≡◌, ℕ, ◌<◌, ◌≤◌, true, false, List, length, slice_index, Option, Some, None}
 use Rattle.p3l_firing.specs.declared.net.Net.{Net}
 use Rattle.p3l_firing.specs.State.{State, has_room}

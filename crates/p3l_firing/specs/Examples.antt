@@ -144,7 +144,7 @@ loop_net =
     (plain_chan
     ∷ (plain_chan ∷ (record { cap = 4; credits = 0 } ∷ (record { cap = 4; credits = 4 } ∷ []))))
 
--- what a run has emitted, and how often it fired and was idle
+-- the outcomes that a run has emitted, and its counts of firings and idle picks
 pub record Comes (c : Course) (outcomes : List Outcome) (fired idle : ℕ) : Type 0 where
   pub emits : c.state.emitted ≡ outcomes
   pub fires : c.fired ≡ fired

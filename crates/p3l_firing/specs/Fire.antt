@@ -1,22 +1,22 @@
--- What can fire, and what a firing does, by the table of kinds.
+-- Readiness of processes, and effects of their firings, by the table of kinds.
 use Rattle.std.specs.Prelude.{◌≡◌, ℕ, Bool, false, not, ◌&&◌, Option, Some, None, slice_get}
 use Rattle.p3l_skel.specs.declared.tree.Tree.{Tree}
 use Rattle.p3l_firing.specs.declared.process.Proc.{Proc}
 use Rattle.p3l_firing.specs.declared.net.Net.{Net}
 use Rattle.p3l_firing.specs.Token.{has_trap}
 use Rattle.p3l_firing.specs.Nodes.{Leaf}
-use Rattle.p3l_firing.specs.State.{Own, State}
+use Rattle.p3l_firing.specs.State.{LocalState, State}
 unfoldable pub use Rattle.p3l_firing.specs.kinds.{row_can, row_fire, row_reads, row_wants_memory}
 
-unfoldable pub ready_of : Option Proc → Tree → Net → State → Own → Bool
+unfoldable pub ready_of : Option Proc → Tree → Net → State → LocalState → Bool
 ready_of None tree net s o = false
 ready_of (Some q) tree net s o = row_can q.kind tree net s o q
 
-unfoldable pub fire_of : Option Proc → Tree → Leaf → Net → State → ℕ → Own → State
+unfoldable pub fire_of : Option Proc → Tree → Leaf → Net → State → ℕ → LocalState → State
 fire_of None tree leaf net s p o = s
 fire_of (Some q) tree leaf net s p o = row_fire q.kind tree leaf net s p o q
 
-unfoldable pub wants_memory_of : Option Proc → Net → State → Own → Bool
+unfoldable pub wants_memory_of : Option Proc → Net → State → LocalState → Bool
 wants_memory_of None net s o = false
 wants_memory_of (Some q) net s o = row_wants_memory q.kind net s o q
 

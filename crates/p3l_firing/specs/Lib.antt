@@ -5,6 +5,7 @@ pub mod Token
 pub mod Segments
 pub mod Nodes
 pub mod State
+pub mod Shot
 pub mod Process
 pub mod Widths
 pub mod kinds
@@ -14,7 +15,7 @@ pub mod Ways
 pub mod Run
 pub mod RoundRobin
 pub mod Outcomes
-pub mod Carried
+pub mod NetInvariants
 pub mod Orderly
 pub mod Cut
 pub mod Typed

@@ -1,5 +1,5 @@
--- What processes need of the nodes of a tree: first what the tree alone says, then what its nodes
--- make of outcomes.
+-- Facts about the nodes of a tree that processes need: first those of the tree alone, then the results
+-- of its nodes on outcomes.
 use Rattle.std.specs.Prelude.{ℕ, ℤ, ◌-◌, List, []}
 use Rattle.p3l_base.specs.declared.cut.Cut.{Cut}
 use Rattle.p3l_base.specs.declared.outcome.Outcome.{Outcome}
@@ -13,7 +13,7 @@ use Rattle.p3l_skel.specs.Fold.{combined, tree_fold}
 use Rattle.p3l_skel.specs.Item.{item, on_value, gathered, turns_spent}
 use Rattle.p3l_firing.specs.Segments.{segment_words}
 
--- what the `seq` modules of a tree make of words, by their numbers
+-- the outcomes of a tree's `seq` modules on words, by their numbers
 abbrev pub Leaf : Type 0
 Leaf = ℕ → List ℤ → Outcome
 
@@ -21,7 +21,7 @@ Leaf = ℕ → List ℤ → Outcome
 abbrev pub no_cut : Cut
 no_cut = record { first = 0; second = 0; ins = []; outs = [] }
 
--- how a form cuts its token, if it is that of a map
+-- the cut of a form's token if the form is a map, otherwise no cut
 abbrev pub cut_of : Form → Cut
 cut_of Seq = no_cut
 cut_of Comp = no_cut
@@ -73,15 +73,15 @@ joined_of tree node = gathered (joined_words (cut_of (node_at tree node).form))
 unfoldable pub segment_of : Tree → ℕ → ℕ → ℕ → Outcome → Outcome
 segment_of tree node n s = on_value (λ words. Value (segment_words (elem_of (node_at tree node).form) n s words))
 
--- what a node makes of an outcome: a trap stays as it is
+-- the outcome of a node on an outcome: a trap stays as it is
 abbrev pub outcome_of : Tree → Leaf → ℕ → Outcome → Outcome
 outcome_of tree leaf node = on_value (item tree leaf node)
 
--- what the condition of a loop makes of an outcome
+-- the outcome of a loop's condition on an outcome
 unfoldable pub test_of : Tree → Leaf → ℕ → Outcome → Outcome
 test_of tree leaf node = outcome_of tree leaf (part_at tree node 1)
 
--- what the operator of a reduce makes of two outcomes, and of several by halves
+-- the outcome of a reduce's operator on two outcomes, and on several by halves
 unfoldable pub operator_of : Tree → Leaf → ℕ → Outcome → Outcome → Outcome
 operator_of tree leaf node = combined (item tree leaf (part_at tree node 0))
 

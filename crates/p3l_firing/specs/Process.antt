@@ -13,7 +13,7 @@ in_of q k = slice_index q.ins k
 abbrev pub out_of : Proc → ℕ → ℕ
 out_of q k = slice_index q.outs k
 
--- what process p does
+-- the kind of process p, if there is one
 abbrev pub kind_at : Net → ℕ → Option ProcKind
 kind_at net p = option_map (λ q. q.kind) (slice_get net.procs p)
 
@@ -24,7 +24,7 @@ all_ins = flat_map (λ q. q.ins)
 abbrev pub all_outs : List Proc → List ℕ
 all_outs = flat_map (λ q. q.outs)
 
--- how often a number occurs in a list
+-- the count of a number in a list
 abbrev pub times : ℕ → List ℕ → ℕ
 times c = count_by (λ d. d == c)
 
@@ -33,7 +33,7 @@ abbrev pub Has : List ℕ → ℕ → Type 0
 Has [] c = ⊥
 Has (d ∷ ds) c = (d ≡ c) ⊎ Has ds c
 
--- what is there reads or writes channel c
+-- a process is there, and reads or writes channel c
 abbrev pub IsAt : Option Proc → ℕ → Type 0
 IsAt None c = ⊥
 IsAt (Some q) c = Has q.ins c ⊎ Has q.outs c

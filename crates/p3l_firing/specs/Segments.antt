@@ -4,7 +4,7 @@ use Rattle.std.specs.List.{flat_map}
 use Rattle.p3l_skel.specs.Item.{elements}
 use Rattle.p3l_skel.specs.Fold.{segments}
 
--- how often a number can be halved before it is 1, at most `most` times
+-- the number of halvings until a number is 1, at most `most`
 unfoldable pub level_up_to : ℕ → ℕ → ℕ
 level_up_to zero n = 0
 level_up_to (suc most) n = cond (nat_lt n 2) 0 (suc (level_up_to most (n / 2)))
@@ -13,17 +13,17 @@ level_up_to (suc most) n = cond (nat_lt n 2) 0 (suc (level_up_to most (n / 2)))
 abbrev pub level_of : ℕ → ℕ
 level_of n = level_up_to 9 n
 
--- how many elements the halves of segments have: the first of two halves is rounded down
+-- the lengths of the halves of segments: the first of two halves is rounded down
 unfoldable pub halved : List ℕ → List ℕ
 halved [] = []
 halved (l ∷ ls) = (l / 2) ∷ ((l - l / 2) ∷ halved ls)
 
--- how many elements each segment of `len` elements has, in order: at level 0 all, and at each further level the halves
+-- the lengths of the segments of `len` elements, in order: at level 0 all, and at each further level the halves
 unfoldable pub segment_lengths : ℕ → ℕ → List ℕ
 segment_lengths zero len = len ∷ []
 segment_lengths (suc level) len = halved (segment_lengths level len)
 
--- how many elements segment s of n has
+-- the length of segment s of n
 abbrev pub segment_length : ℕ → ℕ → ℕ → ℕ
 segment_length len n s = slice_index (segment_lengths (level_of n) len) s
 

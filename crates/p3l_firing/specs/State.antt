@@ -8,20 +8,20 @@ use Rattle.p3l_firing.specs.declared.token.Token.{Token}
 use Rattle.p3l_firing.specs.Lists.{first_or, rest_of}
 use Rattle.p3l_firing.specs.Token.{credit}
 
--- what a process keeps from one of its firings to the next: a number, and the tokens that it holds
-pub record Own : Type 0 where
+-- the local state of a process between its firings: a number, and the tokens that it holds
+pub record LocalState : Type 0 where
   pub number : ℕ
   pub held : List Token
 
--- what a process keeps before its first firing
-abbrev pub fresh : Own
+-- the local state of a process before its first firing
+abbrev pub fresh : LocalState
 fresh = record { number = 0; held = [] }
 
 -- the tokens of each channel in the order of sending, what each process keeps, the items not yet sent, how many were
 -- sent, and the outcomes emitted
 pub record State : Type 0 where
   pub tokens : ℕ → List Token
-  pub own : ℕ → Own
+  pub own : ℕ → LocalState
   pub unsent : List (List ℤ)
   pub sent : ℕ
   pub emitted : List Outcome
@@ -39,30 +39,30 @@ unfoldable pub push : State → ℕ → Token → State
 push s c token = record s { tokens = at s.tokens c (s.tokens c ++ token ∷ []) }
 
 -- the state after process p keeps something else
-unfoldable pub set_own : State → ℕ → Own → State
+unfoldable pub set_own : State → ℕ → LocalState → State
 set_own s p o = record s { own = at s.own p o }
 
--- what a process keeps when it has counted one more
-abbrev pub counted : Own → Own
+-- the local state of a process that has counted one more
+abbrev pub counted : LocalState → LocalState
 counted o = record o { number = o.number + 1 }
 
--- what a process keeps when it takes a token to hand it out in pieces, from piece 0 on
-abbrev pub holding : Token → Own
+-- the local state of a process that takes a token to hand it out in pieces, from piece 0 on
+abbrev pub holding : Token → LocalState
 holding token = record { number = 0; held = token ∷ [] }
 
--- what a process keeps when it has taken a token more to those that it holds
-abbrev pub gathering : Own → Token → Own
+-- the local state of a process that has taken a token more to those that it holds
+abbrev pub gathering : LocalState → Token → LocalState
 gathering o token = record o { held = o.held ++ token ∷ [] }
 
--- what a process keeps when it has let go of all that it held
-abbrev pub released : Own → Own
+-- the local state of a process that has released all that it held
+abbrev pub released : LocalState → LocalState
 released o = record o { held = [] }
 
--- what process p keeps, of a list
-abbrev pub own_at : List Own → ℕ → Own
+-- the local state of process p, from a list
+abbrev pub own_at : List LocalState → ℕ → LocalState
 own_at owns p = slice_index_or owns p fresh
 
--- what a number without a channel is read as
+-- the channel for a number without a channel
 abbrev pub no_chan : Chan
 no_chan = record { cap = 0; credits = 0 }
 
@@ -73,7 +73,7 @@ chan_at net c = slice_index_or net.chans c no_chan
 unfoldable pub has_room : Net → State → ℕ → Bool
 has_room net s c = nat_lt (length (s.tokens c)) (chan_at net c).cap
 
--- what channel c holds before anything has fired: its credits
+-- the tokens of channel c before anything has fired: its credits
 unfoldable pub at_first : Net → ℕ → List Token
 at_first net c = replicate (chan_at net c).credits credit
 

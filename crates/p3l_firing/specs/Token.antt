@@ -39,7 +39,7 @@ unfoldable pub next_tag : List ℕ → List ℕ
 next_tag [] = []
 next_tag (tag ∷ tags) = suc tag ∷ tags
 
--- whether these are the same tags
+-- true exactly if these are the same tags
 unfoldable pub same_tags : List ℕ → List ℕ → Bool
 same_tags [] [] = true
 same_tags [] (other ∷ others) = false
@@ -51,12 +51,12 @@ abbrev pub newest_tag : Token → ℕ
 newest_tag token = first_tag token.tags
 
 -- the token without its newest tag
-abbrev pub peeled : Token → Token
-peeled token = record { tags = later_tags token.tags; body = token.body }
+abbrev pub untagged : Token → Token
+untagged token = record { tags = later_tags token.tags; body = token.body }
 
 -- the second newest tag: in a loop the number of a token
 abbrev pub second_tag : Token → ℕ
-second_tag token = newest_tag (peeled token)
+second_tag token = newest_tag (untagged token)
 
 -- a token that enters a loop with this number, in its first turn
 abbrev pub admitted : ℕ → Token → Token

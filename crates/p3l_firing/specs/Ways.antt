@@ -11,7 +11,7 @@ use Rattle.p3l_firing.specs.declared.net.Net.{Net}
 use Rattle.p3l_firing.specs.Lists.{has_first}
 use Rattle.p3l_firing.specs.Token.{has_trap}
 use Rattle.p3l_firing.specs.Nodes.{Leaf}
-use Rattle.p3l_firing.specs.State.{Own, State, front, has_room}
+use Rattle.p3l_firing.specs.State.{LocalState, State, front, has_room}
 use Rattle.p3l_firing.specs.Process.{in_of, out_of}
 use Rattle.p3l_firing.specs.kinds.Source as source
 use Rattle.p3l_firing.specs.kinds.Sink as sink
@@ -26,7 +26,7 @@ use Rattle.p3l_firing.specs.kinds.Join as join
 use Rattle.p3l_firing.specs.kinds.Head as head
 use Rattle.p3l_firing.specs.kinds.Tail as tail
 
--- what is known: of each channel, whether its reader sees a token, and whether its writer knows of room
+-- the known facts: of each channel, whether its reader sees a token, and whether its writer knows of room
 pub record Eyes : Type 0 where
   pub fronts : ℕ → Bool
   pub rooms : ℕ → Bool
@@ -41,7 +41,7 @@ pub record Knows (e f : Eyes) : Type 0 where
   pub rooms : (c : ℕ) → e.rooms c ≡ true → f.rooms c ≡ true
 
 -- an emit sends the first token to this worker
-pub record Deals (e : Eyes) (s : State) (p : ℕ) (o : Own) (q : Proc) (t : State) : Type 0 where
+pub record Deals (e : Eyes) (s : State) (p : ℕ) (o : LocalState) (q : Proc) (t : State) : Type 0 where
   pub at : ℕ
   pub below : at < length q.outs
   pub full : e.fronts (in_of q 0) ≡ true
@@ -49,7 +49,7 @@ pub record Deals (e : Eyes) (s : State) (p : ℕ) (o : Own) (q : Proc) (t : Stat
   pub is : t ≡ emit.sent_to (Some (slice_index q.outs at)) s p o q
 
 -- a collect takes the token that is expected from this worker
-pub record Collects (e : Eyes) (s : State) (p : ℕ) (o : Own) (q : Proc) (t : State) : Type 0 where
+pub record Collects (e : Eyes) (s : State) (p : ℕ) (o : LocalState) (q : Proc) (t : State) : Type 0 where
   pub at : ℕ
   pub below : at < length q.ins
   pub full : e.fronts (slice_index q.ins at) ≡ true
@@ -64,27 +64,27 @@ pub record SendsRound (e : Eyes) (s : State) (q : Proc) (t : State) : Type 0 whe
   pub is : t ≡ head.sent_round s q
 
 -- or lets one in
-pub record LetsIn (e : Eyes) (s : State) (p : ℕ) (o : Own) (q : Proc) (t : State) : Type 0 where
+pub record LetsIn (e : Eyes) (s : State) (p : ℕ) (o : LocalState) (q : Proc) (t : State) : Type 0 where
   pub room : e.rooms (out_of q 0) ≡ true
   pub full : e.fronts (in_of q 0) ≡ true
   pub credit : e.fronts (in_of q 2) ≡ true
   pub is : t ≡ head.let_in s p o q
 
 -- a tail lets out the token that is expected
-pub record LetsOut (e : Eyes) (s : State) (p : ℕ) (o : Own) (q : Proc) (t : State) : Type 0 where
+pub record LetsOut (e : Eyes) (s : State) (p : ℕ) (o : LocalState) (q : Proc) (t : State) : Type 0 where
   pub holds : tail.has_number o.number o.held ≡ true
   pub room : e.rooms (out_of q 0) ≡ true
   pub credits : e.rooms (out_of q 2) ≡ true
   pub is : t ≡ tail.release s p o q
 
 -- or takes one
-pub record TakesTurn (tree : Tree) (leaf : Leaf) (e : Eyes) (s : State) (p : ℕ) (o : Own) (q : Proc) (t : State) : Type 0 where
+pub record TakesTurn (tree : Tree) (leaf : Leaf) (e : Eyes) (s : State) (p : ℕ) (o : LocalState) (q : Proc) (t : State) : Type 0 where
   pub full : e.fronts (in_of q 0) ≡ true
   pub room : e.rooms (out_of q 1) ≡ true
   pub is : t ≡ tail.take_turn (tail.next_turn tree leaf s q) s p o q (front s (in_of q 0))
 
 -- process q at p can take s to t, by what is known
-unfoldable pub row_ways : ProcKind → Tree → Leaf → Eyes → State → ℕ → Own → Proc → State → Type 0
+unfoldable pub row_ways : ProcKind → Tree → Leaf → Eyes → State → ℕ → LocalState → Proc → State → Type 0
 row_ways kinds.Source tree leaf e s p o q t =
     ((has_first s.unsent && e.rooms (out_of q 0)) ≡ true) × (t ≡ source.fire s q)
 row_ways kinds.Sink tree leaf e s p o q t =
@@ -108,7 +108,7 @@ row_ways kinds.Join tree leaf e s p o q t =
 row_ways kinds.Head tree leaf e s p o q t = SendsRound e s q t ⊎ LetsIn e s p o q t
 row_ways kinds.Tail tree leaf e s p o q t = LetsOut e s p o q t ⊎ TakesTurn tree leaf e s p o q t
 
-unfoldable pub ways_of : Option Proc → Tree → Leaf → Eyes → State → ℕ → Own → State → Type 0
+unfoldable pub ways_of : Option Proc → Tree → Leaf → Eyes → State → ℕ → LocalState → State → Type 0
 ways_of None tree leaf e s p o t = ⊥
 ways_of (Some q) tree leaf e s p o t = row_ways q.kind tree leaf e s p o q t
 

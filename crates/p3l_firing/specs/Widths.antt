@@ -4,7 +4,7 @@ use Rattle.std.specs.List.{AllByRecursion}
 use Rattle.p3l_skel.specs.Tree.{HasLength}
 use Rattle.p3l_firing.specs.declared.token.Token.{Token}
 
--- how many words a value in each channel has, and how many tags each token
+-- the number of words of a value in each channel, and the number of tags of each token
 pub record Widths : Type 0 where
   pub words : ℕ → ℕ
   pub tags : ℕ → ℕ

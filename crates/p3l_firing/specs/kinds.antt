@@ -19,7 +19,7 @@ use Rattle.p3l_firing.specs.declared.process.ProcKind.{ProcKind}
 use Rattle.p3l_firing.specs.declared.process.ProcKind.TheVariants as kinds
 use Rattle.p3l_firing.specs.declared.net.Net.{Net}
 use Rattle.p3l_firing.specs.Nodes.{Leaf}
-use Rattle.p3l_firing.specs.State.{Own, State}
+use Rattle.p3l_firing.specs.State.{LocalState, State}
 use Rattle.p3l_firing.specs.Widths.{Widths}
 use Rattle.p3l_firing.specs.kinds.Source as source
 use Rattle.p3l_firing.specs.kinds.Sink as sink
@@ -34,8 +34,8 @@ use Rattle.p3l_firing.specs.kinds.Join as join
 use Rattle.p3l_firing.specs.kinds.Head as head
 use Rattle.p3l_firing.specs.kinds.Tail as tail
 
--- when a process of each kind can fire, as long as no trap was emitted
-unfoldable pub row_can : ProcKind → Tree → Net → State → Own → Proc → Bool
+-- true exactly if a process of this kind can fire, as long as no trap was emitted
+unfoldable pub row_can : ProcKind → Tree → Net → State → LocalState → Proc → Bool
 row_can kinds.Source tree net s o q = source.can net s q
 row_can kinds.Sink tree net s o q = sink.can s q
 row_can kinds.Run tree net s o q = run.can net s q
@@ -50,7 +50,7 @@ row_can kinds.Head tree net s o q = head.can net s q
 row_can kinds.Tail tree net s o q = tail.can net s o q
 
 -- the state after a process of each kind fired
-unfoldable pub row_fire : ProcKind → Tree → Leaf → Net → State → ℕ → Own → Proc → State
+unfoldable pub row_fire : ProcKind → Tree → Leaf → Net → State → ℕ → LocalState → Proc → State
 row_fire kinds.Source tree leaf net s p o q = source.fire s q
 row_fire kinds.Sink tree leaf net s p o q = sink.fire s q
 row_fire kinds.Run tree leaf net s p o q = run.fire tree leaf s q
@@ -65,7 +65,7 @@ row_fire kinds.Head tree leaf net s p o q = head.fire s p o q
 row_fire kinds.Tail tree leaf net s p o q = tail.fire tree leaf net s p o q
 
 -- the channels whose tokens the condition of a process of each kind reads
-unfoldable pub row_reads : ProcKind → Own → Proc → List ℕ
+unfoldable pub row_reads : ProcKind → LocalState → Proc → List ℕ
 row_reads kinds.Source o q = source.reads q
 row_reads kinds.Sink o q = sink.reads q
 row_reads kinds.Run o q = run.reads q
@@ -80,7 +80,7 @@ row_reads kinds.Head o q = head.reads q
 row_reads kinds.Tail o q = tail.reads q
 
 -- a firing of a process of each kind may need memory
-unfoldable pub row_wants_memory : ProcKind → Net → State → Own → Proc → Bool
+unfoldable pub row_wants_memory : ProcKind → Net → State → LocalState → Proc → Bool
 row_wants_memory kinds.Source net s o q = false
 row_wants_memory kinds.Sink net s o q = false
 row_wants_memory kinds.Run net s o q = true
@@ -109,8 +109,8 @@ FitsKind kinds.Join tree widths q = join.Fits tree widths q
 FitsKind kinds.Head tree widths q = head.Fits tree widths q
 FitsKind kinds.Tail tree widths q = tail.Fits tree widths q
 
--- what a process keeps fits its kind: those that are none of the five that hold tokens hold none
-abbrev pub FitsOwn : ProcKind → Tree → Widths → Proc → Own → Type 0
+-- the local state of a process fits its kind: those that are none of the five that hold tokens hold none
+abbrev pub FitsOwn : ProcKind → Tree → Widths → Proc → LocalState → Type 0
 FitsOwn kinds.Source tree widths q o = o.held ≡ []
 FitsOwn kinds.Sink tree widths q o = o.held ≡ []
 FitsOwn kinds.Run tree widths q o = o.held ≡ []

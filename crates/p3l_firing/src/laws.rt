@@ -9,7 +9,7 @@ ghost use Rattle.p3l_skel.specs.Lawful.{IsLawfulTree};
 ghost use Rattle.p3l_skel.specs.Numbers.{firings};
 ghost use Rattle.p3l_skel.specs.Tree.{node_at, GivesOuts};
 ghost use Rattle.p3l_firing.specs.declared.net.Net.{Net};
-ghost use Rattle.p3l_firing.specs.Carried.{Carry, HaveInWords, IsCarried};
+ghost use Rattle.p3l_firing.specs.NetInvariants.{Invariants, HaveInWords, HasInvariants};
 ghost use Rattle.p3l_firing.specs.Choice.{Emptiest, Full, FirstDue, NoneDue};
 ghost use Rattle.p3l_firing.specs.Examples.{HandValues};
 ghost use Rattle.p3l_firing.specs.Fire.{IsStuck, can_fire, fire, is_ready};
@@ -35,93 +35,94 @@ pub fn channels_are_chosen()
         → FirstDue s n cs (due_in s n cs) ⊎ NoneDue s n cs (due_in s n cs) }
 {}
 
-/// The law of runs. A carried net goes on from any orderly state under any picks: the outcomes emitted
-/// at the end are a prefix of those emitted before, those to come and those of the items not yet sent,
-/// up to the first trap, and they are all of them where nothing can fire. The state at the end is
-/// again one to go on from, and balanced where the first was. The net fires at most as often as its
-/// tokens could still need, and as an item takes for each item sent since. The round robin ends where
-/// nothing can fire.
-pub fn a_carried_net_goes_on_from_any_orderly_state()
-    ensures going { (tree : Tree) (leaf : Leaf) (net : Net) (firings : ℕ) (carry : Carry)
+/// The law of runs. A net with invariants continues from any orderly state under any picks: the
+/// outcomes emitted at the end are a prefix of those emitted before, those to come and those of the
+/// items not yet sent, up to the first trap, and they are all of them where nothing can fire. The
+/// state at the end is again one to continue from, and balanced where the first was. The net fires
+/// at most as often as its tokens could still need, and as an item takes for each item sent since.
+/// The round robin ends where nothing can fire.
+pub fn a_net_with_invariants_continues_from_any_orderly_state()
+    ensures going { (tree : Tree) (leaf : Leaf) (net : Net) (firings : ℕ) (invariants : Invariants)
         (s : State) (picks : List ℕ)
-        → IsCarried tree leaf net firings carry → CanGoOn carry s
-        → CanGoOn carry (run_from tree leaf net s picks).state }
-    ensures balanced { (tree : Tree) (leaf : Leaf) (net : Net) (firings : ℕ) (carry : Carry)
+        → HasInvariants tree leaf net firings invariants → CanGoOn invariants s
+        → CanGoOn invariants (run_from tree leaf net s picks).state }
+    ensures balanced { (tree : Tree) (leaf : Leaf) (net : Net) (firings : ℕ) (invariants : Invariants)
         (s : State) (picks : List ℕ)
-        → IsCarried tree leaf net firings carry → carry.orderly s ≡ true → IsBalanced carry s
-        → IsBalanced carry (run_from tree leaf net s picks).state }
-    ensures begins { (tree : Tree) (leaf : Leaf) (net : Net) (firings : ℕ) (carry : Carry)
+        → HasInvariants tree leaf net firings invariants → invariants.orderly s ≡ true → IsBalanced invariants s
+        → IsBalanced invariants (run_from tree leaf net s picks).state }
+    ensures begins { (tree : Tree) (leaf : Leaf) (net : Net) (firings : ℕ) (invariants : Invariants)
         (s : State) (picks : List ℕ)
-        → IsCarried tree leaf net firings carry → CanGoOn carry s
+        → HasInvariants tree leaf net firings invariants → CanGoOn invariants s
         → IsPrefixOf (run_from tree leaf net s picks).state.emitted
-        (outcomes_from tree leaf carry s) }
-    ensures finished { (tree : Tree) (leaf : Leaf) (net : Net) (firings : ℕ) (carry : Carry)
+        (outcomes_from tree leaf invariants s) }
+    ensures finished { (tree : Tree) (leaf : Leaf) (net : Net) (firings : ℕ) (invariants : Invariants)
         (s : State) (picks : List ℕ)
-        → IsCarried tree leaf net firings carry → CanGoOn carry s
+        → HasInvariants tree leaf net firings invariants → CanGoOn invariants s
         → IsStuck tree net (run_from tree leaf net s picks).state
-        → (run_from tree leaf net s picks).state.emitted ≡ outcomes_from tree leaf carry s }
-    ensures bounded { (tree : Tree) (leaf : Leaf) (net : Net) (firings : ℕ) (carry : Carry)
+        → (run_from tree leaf net s picks).state.emitted ≡ outcomes_from tree leaf invariants s }
+    ensures bounded { (tree : Tree) (leaf : Leaf) (net : Net) (firings : ℕ) (invariants : Invariants)
         (s : State) (picks : List ℕ)
-        → IsCarried tree leaf net firings carry → carry.orderly s ≡ true
+        → HasInvariants tree leaf net firings invariants → invariants.orderly s ≡ true
         → ((run_from tree leaf net s picks).fired
-        + carry.owed (run_from tree leaf net s picks).state) + firings * s.sent
-        ≤ carry.owed s + firings * (run_from tree leaf net s picks).state.sent }
-    ensures sent { (tree : Tree) (leaf : Leaf) (net : Net) (firings : ℕ) (carry : Carry)
+        + invariants.owed (run_from tree leaf net s picks).state) + firings * s.sent
+        ≤ invariants.owed s + firings * (run_from tree leaf net s picks).state.sent }
+    ensures sent { (tree : Tree) (leaf : Leaf) (net : Net) (firings : ℕ) (invariants : Invariants)
         (s : State) (picks : List ℕ)
-        → IsCarried tree leaf net firings carry → carry.orderly s ≡ true
+        → HasInvariants tree leaf net firings invariants → invariants.orderly s ≡ true
         → (run_from tree leaf net s picks).state.sent
         + length (run_from tree leaf net s picks).state.unsent ≡ s.sent + length s.unsent }
-    ensures ends { (tree : Tree) (leaf : Leaf) (net : Net) (firings : ℕ) (carry : Carry)
+    ensures ends { (tree : Tree) (leaf : Leaf) (net : Net) (firings : ℕ) (invariants : Invariants)
         (s : State) (most from : ℕ)
-        → IsCarried tree leaf net firings carry → carry.orderly s ≡ true → from < length net.procs
-        → carry.owed s + firings * length s.unsent ≤ most
+        → HasInvariants tree leaf net firings invariants → invariants.orderly s ≡ true → from < length net.procs
+        → invariants.owed s + firings * length s.unsent ≤ most
         → IsStuck tree net
         (run_from tree leaf net s (round_robin tree leaf net most s from)).state }
 {}
 
-/// From an orderly state in which no trap was emitted, a carried net emits a prefix of the outcomes to
-/// come and those of the items not yet sent, up to the first trap, and all of them where nothing can
-/// fire.
-pub fn a_carried_net_emits_what_is_left()
-    ensures { (tree : Tree) (leaf : Leaf) (net : Net) (firings : ℕ) (carry : Carry) (s : State)
+/// From an orderly state in which no trap was emitted, a net with invariants emits a prefix of the
+/// outcomes to come and those of the items not yet sent, up to the first trap, and all of them
+/// where nothing can fire.
+pub fn a_net_with_invariants_emits_what_is_left()
+    ensures { (tree : Tree) (leaf : Leaf) (net : Net) (firings : ℕ) (invariants : Invariants) (s : State)
         (picks : List ℕ)
-        → IsCarried tree leaf net firings carry → carry.orderly s ≡ true
+        → HasInvariants tree leaf net firings invariants → invariants.orderly s ≡ true
         → has_trap s.emitted ≡ false
-        → Emits tree net (left_from tree leaf carry s) s (run_from tree leaf net s picks).state }
+        → Emits tree net (left_from tree leaf invariants s) s (run_from tree leaf net s picks).state }
 {}
 
-/// The law of runs at the first state, which is orderly. Of items that have the root's in words, and
-/// any picks, the outcomes emitted are a prefix of the meaning, and all of it where nothing can fire;
-/// no more items are sent than there are, and the net fires at most `firings` times for each item
-/// sent. The round robin ends where nothing can fire.
-pub fn a_carried_net_means_its_items()
-    ensures begins { (tree : Tree) (leaf : Leaf) (net : Net) (firings : ℕ) (carry : Carry)
+/// The law of runs at the first state, which is orderly. Of items that have the root's in words,
+/// and any picks, the outcomes emitted are a prefix of the meaning, and all of it where nothing can
+/// fire; no more items are sent than there are, and the net fires at most `firings` times for each
+/// item sent. The round robin ends where nothing can fire.
+pub fn a_net_with_invariants_means_its_items()
+    ensures begins { (tree : Tree) (leaf : Leaf) (net : Net) (firings : ℕ) (invariants : Invariants)
         (items : List (List ℤ)) (picks : List ℕ)
-        → IsCarried tree leaf net firings carry → HaveInWords tree items
+        → HasInvariants tree leaf net firings invariants → HaveInWords tree items
         → IsPrefixOf (run tree leaf net items picks).state.emitted (meaning tree leaf items) }
-    ensures finished { (tree : Tree) (leaf : Leaf) (net : Net) (firings : ℕ) (carry : Carry)
+    ensures finished { (tree : Tree) (leaf : Leaf) (net : Net) (firings : ℕ) (invariants : Invariants)
         (items : List (List ℤ)) (picks : List ℕ)
-        → IsCarried tree leaf net firings carry → HaveInWords tree items
+        → HasInvariants tree leaf net firings invariants → HaveInWords tree items
         → IsStuck tree net (run tree leaf net items picks).state
         → (run tree leaf net items picks).state.emitted ≡ meaning tree leaf items }
-    ensures bounded { (tree : Tree) (leaf : Leaf) (net : Net) (firings : ℕ) (carry : Carry)
+    ensures bounded { (tree : Tree) (leaf : Leaf) (net : Net) (firings : ℕ) (invariants : Invariants)
         (items : List (List ℤ)) (picks : List ℕ)
-        → IsCarried tree leaf net firings carry → HaveInWords tree items
+        → HasInvariants tree leaf net firings invariants → HaveInWords tree items
         → (run tree leaf net items picks).fired
         ≤ firings * (run tree leaf net items picks).state.sent }
-    ensures sent { (tree : Tree) (leaf : Leaf) (net : Net) (firings : ℕ) (carry : Carry)
+    ensures sent { (tree : Tree) (leaf : Leaf) (net : Net) (firings : ℕ) (invariants : Invariants)
         (items : List (List ℤ)) (picks : List ℕ)
-        → IsCarried tree leaf net firings carry → HaveInWords tree items
+        → HasInvariants tree leaf net firings invariants → HaveInWords tree items
         → (run tree leaf net items picks).state.sent ≤ length items }
-    ensures ends { (tree : Tree) (leaf : Leaf) (net : Net) (firings : ℕ) (carry : Carry)
+    ensures ends { (tree : Tree) (leaf : Leaf) (net : Net) (firings : ℕ) (invariants : Invariants)
         (items : List (List ℤ))
-        → IsCarried tree leaf net firings carry → HaveInWords tree items → 0 < length net.procs
+        → HasInvariants tree leaf net firings invariants → HaveInWords tree items → 0 < length net.procs
         → IsStuck tree net (run tree leaf net items
         (round_robin tree leaf net (firings * length items) (first_state net items) 0)).state }
 {}
 
-/// In a typed net every firing keeps the words, the tags and the room of all tokens: those in channels
-/// are of their channel's width and no more than it holds, and those that a process keeps fit it.
+/// In a typed net every firing keeps the words, the tags and the room of all tokens: those in
+/// channels are of their channel's width and no more than it holds, and those that a process keeps
+/// fit it.
 pub fn every_firing_keeps_words_and_tags()
     ensures first { (tree : Tree) (net : Net) (typed : IsTyped tree net) (items : List (List ℤ))
         → AllByRecursion (λ words. length words ≡ (node_at tree 0).ins) items
@@ -136,8 +137,9 @@ pub fn every_firing_keeps_words_and_tags()
         → IsFitting tree net typed.widths t }
 {}
 
-/// The firing by the table of kinds is one of the ways that are open to a process, and where any is open the process
-/// is ready; and whoever knows more of the channels has all ways of one who knows less.
+/// The firing by the table of kinds is one of the ways that are open to a process, and where any is
+/// open the process is ready; and whoever knows more of the channels has all ways of one who knows
+/// less.
 pub fn ways_are_open()
     ensures table { (tree : Tree) (leaf : Leaf) (net : Net) (s : State) (p : ℕ)
         → can_fire tree net s p ≡ true → MayFire tree leaf net s p (fire tree leaf net s p) }
@@ -170,12 +172,12 @@ pub fn the_net_of_one_unit_is_typed()
         → IsTyped tree (unit_net cap) }
 {}
 
-/// The net of one unit is carried: so all its runs mean their items, with as many firings for an item
-/// as its tree has.
-pub fn the_net_of_one_unit_is_carried()
+/// The net of one unit has invariants: so all its runs mean their items, with as many firings for
+/// an item as its tree has.
+pub fn the_net_of_one_unit_has_invariants()
     ensures { (tree : Tree) (leaf : Leaf) (cap : ℕ) (counts : List ℕ) → 0 < cap
         → (node_at tree 0).form ≡ Seq
-        → (carry : Carry) × IsCarried tree leaf (unit_net cap) (firings tree counts) carry }
+        → (invariants : Invariants) × HasInvariants tree leaf (unit_net cap) (firings tree counts) invariants }
 {}
 
 /// The nets that were set up by hand run as was worked out by hand.

@@ -1,9 +1,12 @@
 // Tags of tokens.
 
-ghost use Rattle.std.specs.Prelude.{◌≡◌, ◌<◌, ◌≤◌, ◌^◌, [], ◌∷◌, length};
+ghost use Rattle.std.specs.Prelude.{◌≡◌, ◌<◌, ◌≤◌, ◌^◌, ◌↔◌, [], ◌∷◌, length, reverse, IsTrue};
+ghost use Rattle.p3l_base.specs.Memory.{IfGiven};
 ghost use Rattle.p3l_firing.specs.Token.{most_tags, first_tag, later_tags, next_tag};
 
 use arrayvec::ArrayVec;
+use p3l_base::{List, NoMemory};
+use std::alloc::Global;
 use std::marker::Model;
 
 /// The most tags of a token: two for each level of nodes that may be one in another.
@@ -32,6 +35,32 @@ impl Tags {
         Tags {
             items: ArrayVec::new(),
         }
+    }
+
+    /// The tags that were saved, from the oldest to the newest.
+    pub fn restore(saved: &[u64]) -> Tags
+        requires { length saved.now ≤ most_tags }
+        ensures { result ≡ reverse saved.now }
+    {
+        let mut tags = Tags::new();
+        for tag in saved {
+            tags.add(*tag);
+        }
+        tags
+    }
+
+    /// Saves the tags, from the oldest to the newest.
+    pub fn save(&self, alloc: Global) -> Result<List<u64>, NoMemory>
+        ensures { IfGiven result (λ saved. saved ≡ reverse self.now) }
+    {
+        Ok(List::from_vec(Vec::from_slice(alloc, self.items.as_slice())?))
+    }
+
+    /// Returns true exactly if there is no tag.
+    pub fn is_empty(&self) -> bool
+        ensures { IsTrue result ↔ (self.now ≡ []) }
+    {
+        self.items.as_slice().is_empty()
     }
 
     /// Adds a tag.

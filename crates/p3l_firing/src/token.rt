@@ -1,7 +1,7 @@
 // Tokens, which travel through channels, and firings as they are reported.
 
 ghost use Rattle.std.specs.Prelude.{◌≡◌, ◌<◌, ◌^◌, length};
-ghost use Rattle.p3l_firing.specs.Token.{plain, credit, tagged, newest_tag, second_tag, peeled, once_more, is_trap};
+ghost use Rattle.p3l_firing.specs.Token.{plain, credit, tagged, newest_tag, second_tag, untagged, once_more, is_trap};
 
 use crate::process::ProcKind;
 use crate::tags::Tags;
@@ -76,8 +76,8 @@ impl Token {
     }
 
     /// The token without its newest tag.
-    pub fn peeled(self) -> Token
-        ensures { result ≡ peeled self }
+    pub fn untagged(self) -> Token
+        ensures { result ≡ untagged self }
     {
         let Token { mut tags, body } = self;
         tags.drop_newest();

@@ -24,13 +24,14 @@ use Rattle.p3l_firing.specs.Single.{the_source}
 use Rattle.p3l_firing.specs.State.{chan_at, own_at}
 use Rattle.p3l_firing.specs.Typed.{FitsOwn, IsFitting}
 use Rattle.p3l_firing.specs.Widths.{HasWidth}
+use Rattle.p3l_firing.specs.Shot.{own_of, own_saved_at, saved_at, token_of}
+use Rattle.p3l_firing.specs.declared.shot.Own.{Own}
+use Rattle.p3l_firing.specs.declared.shot.SavedToken.{SavedToken}
+use Rattle.p3l_firing.specs.declared.shot.Shot.{Shot}
 use Rattle.p3l_net.specs.Channel.{Queue, no_queue, tokens_at}
-use Rattle.p3l_net.specs.Fitting.{Fitting, HoldsFew, IsCredit, IsOfModule, LoopPlace, NamesModule, own_saved_at}
+use Rattle.p3l_net.specs.Fitting.{Fitting, HoldsFew, IsCredit, IsOfModule, LoopPlace, NamesModule}
 use Rattle.p3l_net.specs.Machine.{state_of}
-use Rattle.p3l_net.specs.Shot.{Fits, own_of, queues_of, restored, saved_at, token_of}
-use Rattle.p3l_net.specs.declared.shot.Own.{Own}
-use Rattle.p3l_net.specs.declared.shot.SavedToken.{SavedToken}
-use Rattle.p3l_net.specs.declared.shot.Shot.{Shot}
+use Rattle.p3l_net.specs.Shot.{Fits, queues_of, restored}
 use Rattle.p3l_net.proofs.Saving.{queue-there}
 use Rattle.p3l_fitting.specs.Decided.{AllFits, BodyFits, IsBareCredit, IsEmptyValue, LoopFits, OwnFits, QueueFits, TokenFits}
 use Rattle.p3l_fitting.specs.Survey.{linked_loops, linked_survey, linked_widths}

@@ -6,9 +6,9 @@ use Rattle.std.proofs.lemmas.Option.{slice_get-get_or}
 use Rattle.p3l_skel.specs.declared.tree.Tree.{Tree}
 use Rattle.p3l_firing.specs.declared.net.Net.{Net}
 use Rattle.p3l_firing.specs.declared.process.Proc.{Proc}
-use Rattle.p3l_net.specs.Fitting.{own_saved_at}
-use Rattle.p3l_net.specs.declared.shot.Own.{Own}
-use Rattle.p3l_net.specs.declared.shot.Shot.{Shot}
+use Rattle.p3l_firing.specs.Shot.{own_saved_at}
+use Rattle.p3l_firing.specs.declared.shot.Own.{Own}
+use Rattle.p3l_firing.specs.declared.shot.Shot.{Shot}
 use Rattle.p3l_net.proofs.Standing.{get_inside}
 use Rattle.p3l_fitting.specs.Decided.{OwnFits}
 use Rattle.p3l_template.specs.declared.width.Width.{Width}
@@ -17,7 +17,7 @@ pub never_true : false ≡ true → ⊥
 never_true e = cc
 
 module _ (tree : Tree) (net : Net) (row : List Width) (shot : Shot) where
-  -- what is looked at of the processes before number n
+  -- the saved states of the processes before number n fit
   abbrev pub FitBefore : ℕ → Type 0
   FitBefore n =
       (p : ℕ) → p < n → (q : Proc) → slice_get net.procs p ≡ Some q → OwnFits q.kind tree net row shot q (own_saved_at shot p)

@@ -1,4 +1,4 @@
--- What fits under widths that agree with those by which a net is typed, fits under these.
+-- A state that fits under some widths also fits under the widths by which the net is typed, if both agree on its channels.
 use Rattle.std.proofs.Common.{◌≡◌, ℕ, ◌≤◌, List, [], ◌∷◌, length, refl, sym, ap, subst, arith, inl, inr}
 use Rattle.std.specs.List.{AllByRecursion}
 use Rattle.std.proofs.lemmas.Bool.{cases_lt}
@@ -11,12 +11,12 @@ use Rattle.p3l_firing.specs.declared.process.ProcKind.{ProcKind}
 use Rattle.p3l_firing.specs.declared.process.ProcKind.TheVariants as kinds
 use Rattle.p3l_firing.specs.declared.token.Token.{Token}
 use Rattle.p3l_firing.specs.Process.{Has, in_of, out_of}
-use Rattle.p3l_firing.specs.State.{Own, State, chan_at, no_chan}
+use Rattle.p3l_firing.specs.State.{LocalState, State, chan_at, no_chan}
 use Rattle.p3l_firing.specs.Typed.{FitsKind, FitsOwn, IsFitting, IsTyped}
 use Rattle.p3l_firing.specs.Widths.{Carries, HasWidth, Widths}
+use Rattle.p3l_firing.specs.declared.shot.Shot.{Shot}
 use Rattle.p3l_net.specs.Machine.{state_of}
 use Rattle.p3l_net.specs.Shot.{CanRestore, Fits, restored}
-use Rattle.p3l_net.specs.declared.shot.Shot.{Shot}
 use Rattle.p3l_net.proofs.SoundLaw.{started_sound}
 use Rattle.p3l_net.proofs.Standing.{reads_chan, standing, writes_chan}
 use Rattle.p3l_fitting.specs.Restoring.{AgreeOn}
@@ -35,8 +35,8 @@ tagged_same v w a c xs same h = subst (λ t. AllByRecursion (HasWidth a t) xs) (
 only : (c : ℕ) (cs : List ℕ) → cs ≡ c ∷ [] → Has cs c
 only c cs e = subst (λ z. Has z c) (sym e) (inl refl)
 
--- what a process keeps, where both widths agree on its channels
-module _ (tree : Tree) (v w : Widths) (q : Proc) (o : Own) (ins : (c : ℕ) → Has q.ins c → Carries w c (v.words c) (v.tags c))
+-- a process's own state fits under w as well, if both widths agree on its channels
+module _ (tree : Tree) (v w : Widths) (q : Proc) (o : LocalState) (ins : (c : ℕ) → Has q.ins c → Carries w c (v.words c) (v.tags c))
     (outs : (c : ℕ) → Has q.outs c → Carries w c (v.words c) (v.tags c)) where
   own_same : (k : ProcKind) → FitsKind k tree w q → FitsOwn k tree v q o → FitsOwn k tree w q o
   own_same kinds.Source fit h = h

@@ -6,12 +6,12 @@ use Rattle.p3l_skel.specs.Lawful.{IsLawfulTree}
 use Rattle.p3l_skel.specs.Numbers.{procs}
 use Rattle.p3l_skel.specs.Tree.{nesting, part_at}
 use Rattle.p3l_template.specs.Kind.{Kind}
-use Rattle.p3l_template.specs.Shape.{Base, Seat, no_seat}
+use Rattle.p3l_template.specs.Shape.{Base, Slot, no_slot}
 use Rattle.p3l_template.specs.declared.width.Width.{Width}
 use Rattle.p3l_link.specs.Counts.{IsCounted}
 use Rattle.p3l_link.specs.Net.{Piece, base_at, inner_pieces, piece_of, root_base, root_piece}
 use Rattle.p3l_link.specs.Shape.{kind_at}
-use Rattle.p3l_link.proofs.Counted.{root_counted, seat_counted, shape_lawful}
+use Rattle.p3l_link.proofs.Counted.{root_counted, slot_counted, shape_lawful}
 use Rattle.p3l_link.proofs.Size.{root_sized}
 use Rattle.p3l_link.proofs.Typing.{widths_counted}
 use Rattle.p3l_fitting.specs.Survey.{HasRoomAfter, base_after, end_survey, inner_survey, node_survey}
@@ -22,9 +22,9 @@ pub record IsSized (F : Piece) (s : Survey) : Type 0 where
   pub procs : s.procs ≡ length F.procs
   pub chans : length s.widths ≡ length F.chans
 
-inner_sized : (f : ℕ → Base → Piece) (g : ℕ → Base → Survey) (seats : List Seat) (p c : ℕ) →
-    ((v : ℕ) → v < length seats → (b : Base) → IsSized (f (get_or seats v no_seat).part b) (g (get_or seats v no_seat).part b)) →
-    IsSized (inner_pieces f seats p c) (inner_survey g seats p c)
+inner_sized : (f : ℕ → Base → Piece) (g : ℕ → Base → Survey) (slots : List Slot) (p c : ℕ) →
+    ((v : ℕ) → v < length slots → (b : Base) → IsSized (f (get_or slots v no_slot).part b) (g (get_or slots v no_slot).part b)) →
+    IsSized (inner_pieces f slots p c) (inner_survey g slots p c)
 unfolding inner_pieces inner_survey
 inner_sized f g [] p c each = record { procs = refl; chans = refl }
 inner_sized f g (x ∷ xs) p c each =
@@ -51,23 +51,23 @@ module _ (tree : Tree) (count : ℕ → ℕ) (cap : ℕ) (lawful : IsLawfulTree 
       let row : List Width = kind.widths tree k t in
       let f : ℕ → Base → Piece = λ v. piece_of tree count cap d (part_at tree k v) in
       let g : ℕ → Base → Survey = λ v. node_survey tree count d (part_at tree k v) (t + kind.deeper) in
-      let seats : List Seat = kind.shape.seats base in
+      let slots : List Slot = kind.shape.slots base in
       let p : ℕ = base.proc + length (kind.shape.procs base) in
       let law = shape_lawful tree count k lawful h.0 h.1 in
       let laid = law.laid cap base in
       let long : length row ≡ kind.shape.chans base = widths_counted tree count k lawful h.0 h.1 t base in
-      let G : Piece = inner_pieces f seats p (base.chan + kind.shape.chans base) in
-      let inner : IsSized G (inner_survey g seats p (base.chan + length row)) =
-      subst (λ n. IsSized G (inner_survey g seats p (base.chan + n))) (sym long)
-      (inner_sized f g seats p (base.chan + kind.shape.chans base)
-      (λ v l b. node_sized d (part_at tree k (get_or seats v no_seat).part) (t + kind.deeper) b
-      (seat_counted tree count k lawful h.0 base v l d h))) in
+      let G : Piece = inner_pieces f slots p (base.chan + kind.shape.chans base) in
+      let inner : IsSized G (inner_survey g slots p (base.chan + length row)) =
+      subst (λ n. IsSized G (inner_survey g slots p (base.chan + n))) (sym long)
+      (inner_sized f g slots p (base.chan + kind.shape.chans base)
+      (λ v l b. node_sized d (part_at tree k (get_or slots v no_slot).part) (t + kind.deeper) b
+      (slot_counted tree count k lawful h.0 base v l d h))) in
       record {
         procs = omega (arith, length-append (kind.shape.procs base) G.procs, inner.procs);
         chans = omega (
           arith,
           length-append (kind.shape.laid cap base) G.chans,
-          length-append row (inner_survey g seats p (base.chan + length row)).widths,
+          length-append row (inner_survey g slots p (base.chan + length row)).widths,
           laid,
           long,
           inner.chans,

@@ -8,13 +8,13 @@ use Rattle.p3l_skel.specs.Lawful.{IsLawfulTree}
 use Rattle.p3l_skel.specs.Tree.{part_at}
 use Rattle.p3l_net.specs.Fitting.{LoopPlace}
 use Rattle.p3l_template.specs.Kind.{Kind}
-use Rattle.p3l_template.specs.Shape.{Base, Seat, no_seat, ports_of}
+use Rattle.p3l_template.specs.Shape.{Base, Slot, no_slot, ports_of}
 use Rattle.p3l_template.specs.declared.template.Ports.{Ports}
 use Rattle.p3l_template.specs.declared.width.Width.{Width}
 use Rattle.p3l_link.specs.Counts.{IsCounted}
 use Rattle.p3l_link.specs.Net.{base_at}
 use Rattle.p3l_link.specs.Shape.{kind_at}
-use Rattle.p3l_link.proofs.Counted.{counted_deep, counted_own, counted_there, seat_counted}
+use Rattle.p3l_link.proofs.Counted.{counted_deep, counted_own, counted_there, slot_counted}
 use Rattle.p3l_link.proofs.Typing.{widths_counted}
 use Rattle.p3l_fitting.specs.Survey.{HasRoomAfter, base_after, followed, inner_survey, no_survey, node_survey, own_loops, survey_inside, survey_round}
 use Rattle.p3l_fitting.specs.declared.survey.Survey.{Survey}
@@ -36,34 +36,34 @@ followed_followed a b c =
 followed_none : (a : Survey) → followed a no_survey ≡ a
 followed_none a = three _ _ _ _ _ _ (omega arith) (append-nil a.widths) (append-nil a.loops)
 
-module _ (f : ℕ → Base → Survey) (seats : List Seat) (s : Survey) (whole : Survey) (i : ℕ)
-    (left : followed s (inner_survey f (drop i seats) s.procs (length s.widths)) ≡ whole) where
+module _ (f : ℕ → Base → Survey) (slots : List Slot) (s : Survey) (whole : Survey) (i : ℕ)
+    (left : followed s (inner_survey f (drop i slots) s.procs (length s.widths)) ≡ whole) where
   -- with no part left
-  all_surveyed : length seats ≤ i → s ≡ whole
+  all_surveyed : length slots ≤ i → s ≡ whole
   unfolding inner_survey
   all_surveyed none =
-      sym (followed_none s) ∙ ap (λ z. followed s (inner_survey f z s.procs (length s.widths))) (sym (drop_all i seats none)) ∙ left
+      sym (followed_none s) ∙ ap (λ z. followed s (inner_survey f z s.procs (length s.widths))) (sym (drop_all i slots none)) ∙ left
 
-  abbrev seat : Seat
-  seat = get_or seats i no_seat
+  abbrev slot : Slot
+  slot = get_or slots i no_slot
 
   here : Survey
-  here = f (get_or seats i no_seat).part (base_at (get_or seats i no_seat) s.procs (length s.widths))
+  here = f (get_or slots i no_slot).part (base_at (get_or slots i no_slot) s.procs (length s.widths))
 
   more : Survey
-  more = inner_survey f (drop (i + 1) seats) (s.procs + here.procs) (length s.widths + length here.widths)
+  more = inner_survey f (drop (i + 1) slots) (s.procs + here.procs) (length s.widths + length here.widths)
 
-  split : i < length seats → followed s (followed here more) ≡ whole
+  split : i < length slots → followed s (followed here more) ≡ whole
   unfolding inner_survey here more
   split there =
       let e : suc i ≡ i + 1 = omega arith in
       ap (λ z. followed s (inner_survey f z s.procs (length s.widths)))
-      (sym (drop-cons seats i no_seat there ∙ ap (λ j. get_or seats i no_seat ∷ drop j seats) e)) ∙ left
+      (sym (drop-cons slots i no_slot there ∙ ap (λ j. get_or slots i no_slot ∷ drop j slots) e)) ∙ left
 
   -- there is room for the next part where there is for all
-  next_room : i < length seats →
-      (s.procs + (f seat.part (base_at seat s.procs (length s.widths))).procs ≤ whole.procs)
-      × (length s.widths + length (f seat.part (base_at seat s.procs (length s.widths))).widths ≤ length whole.widths)
+  next_room : i < length slots →
+      (s.procs + (f slot.part (base_at slot s.procs (length s.widths))).procs ≤ whole.procs)
+      × (length s.widths + length (f slot.part (base_at slot s.procs (length s.widths))).widths ≤ length whole.widths)
   unfolding here
   next_room there =
       let e = ap (λ (z : Survey). z.procs) (split there) in
@@ -72,12 +72,12 @@ module _ (f : ℕ → Base → Survey) (seats : List Seat) (s : Survey) (whole :
         omega (arith, w, length-append s.widths (here.widths ++ more.widths), length-append here.widths more.widths),
       )
 
-  next_surveyed : i < length seats → (s' : Survey) → s' ≡ followed s (f seat.part (base_at seat s.procs (length s.widths))) →
-      followed s' (inner_survey f (drop (i + 1) seats) s'.procs (length s'.widths)) ≡ whole
+  next_surveyed : i < length slots → (s' : Survey) → s' ≡ followed s (f slot.part (base_at slot s.procs (length s.widths))) →
+      followed s' (inner_survey f (drop (i + 1) slots) s'.procs (length s'.widths)) ≡ whole
   unfolding here more
   next_surveyed there s' e =
-      ap (λ (z : Survey). followed z (inner_survey f (drop (i + 1) seats) z.procs (length z.widths))) e
-      ∙ ap (λ n. followed (followed s here) (inner_survey f (drop (i + 1) seats) (s.procs + here.procs) n))
+      ap (λ (z : Survey). followed z (inner_survey f (drop (i + 1) slots) z.procs (length z.widths))) e
+      ∙ ap (λ n. followed (followed s here) (inner_survey f (drop (i + 1) slots) (s.procs + here.procs) n))
       (length-append s.widths here.widths)
       ∙ followed_followed s here more ∙ split there
 
@@ -92,10 +92,10 @@ module _ (tree : Tree) (count : ℕ → ℕ) (d k t : ℕ) (at : Ports) (before 
   abbrev row : List Width
   row = (kind_at tree count k).widths tree k t
 
-  abbrev seats : List Seat
-  seats = (kind_at tree count k).shape.seats (base_after at before)
+  abbrev slots : List Slot
+  slots = (kind_at tree count k).shape.slots (base_after at before)
 
-  -- what the inner parts are surveyed to have
+  -- the survey of each inner part
   abbrev inside : ℕ → Base → Survey
   inside v = node_survey tree count (d - 1) (part_at tree k v) (t + (kind_at tree count k).deeper)
 
@@ -109,11 +109,11 @@ module _ (tree : Tree) (count : ℕ → ℕ) (d k t : ℕ) (at : Ports) (before 
 
   -- and all that is inside it
   abbrev filled : Survey
-  filled = followed begun (inner_survey inside seats begun.procs (length begun.widths))
+  filled = followed begun (inner_survey inside slots begun.procs (length begun.widths))
 
-  -- what is surveyed of the inner parts, with those from the i-th on, is that
+  -- the survey s, followed by that of the inner parts from the i-th on, is the whole
   abbrev pub IsSurveyed : Survey → ℕ → Type 0
-  IsSurveyed s i = followed s (inner_survey inside (drop i seats) s.procs (length s.widths)) ≡ filled
+  IsSurveyed s i = followed s (inner_survey inside (drop i slots) s.procs (length s.widths)) ≡ filled
 
   abbrev node : Survey
   node = node_survey tree count d k t base
@@ -143,7 +143,7 @@ module _ (tree : Tree) (count : ℕ → ℕ) (d k t : ℕ) (at : Ports) (before 
 
     filled_is : filled ≡ followed begun inner
     filled_is =
-        ap (λ n. followed begun (inner_survey inside seats (before.procs + length (kind.shape.procs base)) n))
+        ap (λ n. followed begun (inner_survey inside slots (before.procs + length (kind.shape.procs base)) n))
         (length-append before.widths row)
 
     node_procs : node.procs ≡ length (kind.shape.procs base) + inner.procs
@@ -171,12 +171,12 @@ module _ (tree : Tree) (count : ℕ → ℕ) (d k t : ℕ) (at : Ports) (before 
         omega (arith, e, w, length-append (before.widths ++ row) inner.widths, length-append before.widths row)
 
     -- the node's own loop, and the whole is surveyed
-    pub closed : (items : List Seat) → items ≡ seats → (s : Survey) (i : ℕ) → IsSurveyed s i → length items ≤ i → (is : Bool) → is ≡ kind.is_loop →
+    pub closed : (items : List Slot) → items ≡ slots → (s : Survey) (i : ℕ) → IsSurveyed s i → length items ≤ i → (is : Bool) → is ≡ kind.is_loop →
         (b : Base) → b ≡ base → (s' : Survey) →
         s' ≡ record s { loops = s.loops ++ own_loops is b.proc b.chan s.procs (length s.widths) } → s' ≡ followed before node
     closed items items_are s i left past is loops_is b same s' last =
-        let none : length seats ≤ i = omega (arith, past, ap length items_are) in
-        let e = all_surveyed inside seats s filled i left none ∙ filled_is in
+        let none : length slots ≤ i = omega (arith, past, ap length items_are) in
+        let e = all_surveyed inside slots s filled i left none ∙ filled_is in
         let ps : s.procs ≡ (before.procs + length (kind.shape.procs base)) + inner.procs = ap (λ (z : Survey). z.procs) e in
         let ws : s.widths ≡ (before.widths ++ row) ++ inner.widths = ap (λ (z : Survey). z.widths) e in
         let ls : s.loops ≡ before.loops ++ inner.loops = ap (λ (z : Survey). z.loops) e in
@@ -198,44 +198,44 @@ module _ (tree : Tree) (count : ℕ → ℕ) (d k t : ℕ) (at : Ports) (before 
     pub surveyed_first : (one : Kind) → one ≡ kind → (b : Base) → b ≡ base → (s : Survey) →
         s ≡ record before { procs = before.procs + length (one.shape.procs b); widths = before.widths ++ one.widths tree k t } → IsSurveyed s 0
     surveyed_first one is b same s e =
-        ap (λ (z : Survey). followed z (inner_survey inside seats z.procs (length z.widths)))
+        ap (λ (z : Survey). followed z (inner_survey inside slots z.procs (length z.widths)))
         (e ∙ ap₂ (λ (z : Kind) (x : Base). with_own before (before.procs + length (z.shape.procs x)) (before.widths ++ z.widths tree k t)) is same)
 
-    module _ (items : List Seat) (items_are : items ≡ seats) (s : Survey) (i : ℕ) (left : IsSurveyed s i) (l : i < length items) (x y : Seat)
+    module _ (items : List Slot) (items_are : items ≡ slots) (s : Survey) (i : ℕ) (left : IsSurveyed s i) (l : i < length items) (x y : Slot)
         (same : x ≡ y) (found : y ≡ get_or items i y) (part : ℕ) (part_is : part ≡ part_at tree k x.part) where
-      below : i < length seats
+      below : i < length slots
       below = let e = ap length items_are in omega (arith, l, e)
 
-      seat_is : x ≡ get_or seats i no_seat
-      seat_is = same ∙ found ∙ ap (λ xs. get_or xs i y) items_are ∙ get_or_default seats i y no_seat below
+      slot_is : x ≡ get_or slots i no_slot
+      slot_is = same ∙ found ∙ ap (λ xs. get_or xs i y) items_are ∙ get_or_default slots i y no_slot below
 
-      part_there : part ≡ part_at tree k (get_or seats i no_seat).part
-      part_there = part_is ∙ ap (λ (z : Seat). part_at tree k z.part) seat_is
+      part_there : part ≡ part_at tree k (get_or slots i no_slot).part
+      part_there = part_is ∙ ap (λ (z : Slot). part_at tree k z.part) slot_is
 
       pub part_counted : IsCounted tree count (d - 1) part
       part_counted =
           let more = some in
           let e : d ≡ suc (d - 1) = omega (arith, more) in
           subst (IsCounted tree count (d - 1)) (sym part_there)
-          (seat_counted tree count k lawful there base i below (d - 1) (subst (λ n. IsCounted tree count n k) e counted))
+          (slot_counted tree count k lawful there base i below (d - 1) (subst (λ n. IsCounted tree count n k) e counted))
 
       module _ (u : ℕ) (u_is : u ≡ t + kind.deeper) where
         abbrev surveyed : Survey
         surveyed = node_survey tree count (d - 1) part u (base_after (ports_of x) s)
 
-        surveyed_is : surveyed ≡ inside (get_or seats i no_seat).part (base_at (get_or seats i no_seat) s.procs (length s.widths))
+        surveyed_is : surveyed ≡ inside (get_or slots i no_slot).part (base_at (get_or slots i no_slot) s.procs (length s.widths))
         surveyed_is =
             ap₂ (λ m n. node_survey tree count (d - 1) m n (base_after (ports_of x) s)) part_there u_is
-            ∙ ap (λ (z : Seat). node_survey tree count (d - 1) (part_at tree k (get_or seats i no_seat).part) (t + kind.deeper) (base_after (ports_of z) s))
-            seat_is
+            ∙ ap (λ (z : Slot). node_survey tree count (d - 1) (part_at tree k (get_or slots i no_slot).part) (t + kind.deeper) (base_after (ports_of z) s))
+            slot_is
 
         pub part_room : HasRoomAfter before node.procs (length node.widths) → HasRoomAfter s surveyed.procs (length surveyed.widths)
         part_room room =
-            let next = next_room inside seats s filled i left below in
+            let next = next_room inside slots s filled i left below in
             let p = filled_procs in
             let w = filled_widths in
             subst (λ (z : Survey). HasRoomAfter s z.procs (length z.widths)) (sym surveyed_is)
             (omega (arith, next.0, p, room.0), omega (arith, next.1, w, room.1))
 
         pub surveyed_next : (s' : Survey) → s' ≡ followed s surveyed → IsSurveyed s' (i + 1)
-        surveyed_next s' e = next_surveyed inside seats s filled i left below s' (e ∙ ap (followed s) surveyed_is)
+        surveyed_next s' e = next_surveyed inside slots s filled i left below s' (e ∙ ap (followed s) surveyed_is)

@@ -1,4 +1,4 @@
--- What is looked at to decide whether a shot fits: lists and numbers as they are saved.
+-- Conditions that decide whether a shot fits, on lists and numbers as they are saved.
 use Rattle.std.specs.Prelude.{◌≡◌, ◌≢◌, ℕ, ◌+◌, ◌<◌, ◌≤◌, List, [], length, Some, IfSome, EachIndex, slice_get}
 use Rattle.std.specs.List.{All}
 use Rattle.p3l_base.specs.declared.outcome.Outcome.{Outcome}
@@ -13,11 +13,11 @@ use Rattle.p3l_firing.specs.declared.process.ProcKind.TheVariants as kinds
 use Rattle.p3l_firing.specs.Nodes.{last_element}
 use Rattle.p3l_firing.specs.Process.{in_of, out_of}
 use Rattle.p3l_firing.specs.State.{chan_at}
-use Rattle.p3l_net.specs.Fitting.{FitsLoop, LoopPlace, own_saved_at}
-use Rattle.p3l_net.specs.Shot.{IsCountable, saved_at}
-use Rattle.p3l_net.specs.declared.shot.Own.{Own}
-use Rattle.p3l_net.specs.declared.shot.SavedToken.{SavedToken}
-use Rattle.p3l_net.specs.declared.shot.Shot.{Shot}
+use Rattle.p3l_firing.specs.Shot.{IsCountable, own_saved_at, saved_at}
+use Rattle.p3l_firing.specs.declared.shot.Own.{Own}
+use Rattle.p3l_firing.specs.declared.shot.SavedToken.{SavedToken}
+use Rattle.p3l_firing.specs.declared.shot.Shot.{Shot}
+use Rattle.p3l_net.specs.Fitting.{FitsLoop, LoopPlace}
 use Rattle.p3l_template.specs.Width.{width_at}
 use Rattle.p3l_fitting.specs.Survey.{widths_of}
 use Rattle.p3l_template.specs.declared.width.Width.{Width}
@@ -47,7 +47,7 @@ QueueFits tree chan width saved = (length saved ≤ chan.cap) × All (TokenFits 
 abbrev pub HeldFits : Tree → Width → (most : ℕ) → Own → Type 0
 HeldFits tree width most own = (length own.held ≤ most) × All (TokenFits tree width) own.held
 
--- what is saved of a process of this kind fits it. Beside a head stand the credits of its loop
+-- the saved state of a process of this kind fits it. Beside a head stand the credits of its loop
 unfoldable pub OwnFits : ProcKind → Tree → Net → List Width → Shot → Proc → Own → Type 0
 OwnFits kinds.Source tree net row shot q own = own.held ≡ []
 OwnFits kinds.Sink tree net row shot q own = own.held ≡ []

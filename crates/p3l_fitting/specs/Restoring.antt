@@ -1,12 +1,12 @@
--- When a machine can be restored from what fits.
+-- Conditions under which a machine can be restored from a shot that fits.
 use Rattle.std.specs.Prelude.{ℕ, ◌<◌, List, length}
 use Rattle.p3l_skel.specs.declared.tree.Tree.{Tree}
 use Rattle.p3l_firing.specs.declared.net.Net.{Net}
 use Rattle.p3l_firing.specs.Typed.{IsTyped}
 use Rattle.p3l_firing.specs.Widths.{Carries, Widths}
+use Rattle.p3l_firing.specs.declared.shot.Shot.{Shot}
 use Rattle.p3l_net.specs.Fitting.{Fitting, LoopPlace}
 use Rattle.p3l_net.specs.Shot.{CanRestore}
-use Rattle.p3l_net.specs.declared.shot.Shot.{Shot}
 
 -- two widths agree on the first n channels
 abbrev pub AgreeOn : ℕ → Widths → Widths → Type 0

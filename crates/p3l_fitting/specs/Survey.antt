@@ -1,5 +1,5 @@
--- What a linked net is surveyed to have: how many processes, the width of each channel, and where its loops are, by the recursion that
--- places its nodes.
+-- Surveys of linked nets: the number of processes, the width of each channel, and the places of the loops, by the recursion that
+-- places the nodes.
 use Rattle.std.specs.Prelude.{ℕ, zero, suc, ◌+◌, ◌≤◌, Bool, true, false, List, [], ◌∷◌, ◌++◌, length}
 use Rattle.p3l_skel.specs.declared.tree.Tree.{Tree}
 use Rattle.p3l_skel.specs.Counts.{count_of}
@@ -7,7 +7,7 @@ use Rattle.p3l_skel.specs.Tree.{part_at, nesting}
 use Rattle.p3l_firing.specs.Widths.{Widths}
 use Rattle.p3l_net.specs.Fitting.{LoopPlace}
 use Rattle.p3l_template.specs.Kind.{Kind}
-use Rattle.p3l_template.specs.Shape.{Base, Seat}
+use Rattle.p3l_template.specs.Shape.{Base, Slot}
 use Rattle.p3l_template.specs.Width.{ins_width, outs_width, width_at}
 use Rattle.p3l_template.specs.declared.template.Ports.{Ports}
 use Rattle.p3l_template.specs.declared.width.Width.{Width}
@@ -36,18 +36,18 @@ abbrev pub own_loops : Bool → (p c r e : ℕ) → List LoopPlace
 own_loops true p c r e = loop_place p c r e ∷ []
 own_loops false p c r e = []
 
--- of the inner parts at these seats, one after the other, from process p and channel c on, where it is known what each part is surveyed
+-- of the inner parts at these slots, one after the other, from process p and channel c on, where it is known what each part is surveyed
 -- to have
-unfoldable pub inner_survey : (ℕ → Base → Survey) → List Seat → (p c : ℕ) → Survey
+unfoldable pub inner_survey : (ℕ → Base → Survey) → List Slot → (p c : ℕ) → Survey
 inner_survey survey [] p c = no_survey
-inner_survey survey (seat ∷ seats) p c =
-    let here : Survey = survey seat.part (base_at seat p c) in
-    followed here (inner_survey survey seats (p + here.procs) (c + length here.widths))
+inner_survey survey (slot ∷ slots) p c =
+    let here : Survey = survey slot.part (base_at slot p c) in
+    followed here (inner_survey survey slots (p + here.procs) (c + length here.widths))
 
 -- of the inner parts of a node of this kind at a base, whose own channels carry this row
 abbrev pub survey_inside : Kind → List Width → Base → (ℕ → Base → Survey) → Survey
 survey_inside kind row base survey =
-    inner_survey survey (kind.shape.seats base) (base.proc + length (kind.shape.procs base)) (base.chan + length row)
+    inner_survey survey (kind.shape.slots base) (base.proc + length (kind.shape.procs base)) (base.chan + length row)
 
 -- of the whole node, by what is inside it
 abbrev pub survey_round : Kind → List Width → Base → Survey → Survey

@@ -2,11 +2,10 @@
 
 ghost use Rattle.std.specs.Prelude.{◌≡◌, ◌↔◌, IsTrue, EachIndex};
 ghost use Rattle.p3l_firing.specs.State.{chan_at};
-ghost use Rattle.p3l_net.specs.Shot.{saved_at};
+ghost use Rattle.p3l_firing.specs.Shot.{saved_at};
 ghost use Rattle.p3l_fitting.specs.Decided.{QueueFits};
 ghost use Rattle.p3l_template.specs.Width.{width_at};
 
-use crate::shots::tokens;
 use crate::tokens::tokens_fit;
 use p3l_firing::{Chan, Net};
 use p3l_net::{SavedToken, Shot};
@@ -28,7 +27,7 @@ pub(crate) fn queues_fit(tree: &Tree, net: &Net, row: &[Width], shot: &Shot) -> 
         QueueFits tree.now (chan_at net.now c) (width_at row.now c) (saved_at shot.now c)) }
 {
     for (c, chan) in net.chans.as_slice().iter().enumerate() {
-        if !queue_fits(tree, *chan, width_at(row, c), tokens(shot, c)) {
+        if !queue_fits(tree, *chan, width_at(row, c), shot.tokens(c)) {
             return false;
         }
     }

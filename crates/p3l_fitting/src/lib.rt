@@ -8,7 +8,6 @@ pub mod laws;
 pub mod loops;
 pub mod numbers;
 pub mod owns;
-pub mod shots;
 pub mod survey;
 pub mod tokens;
 pub mod walk;

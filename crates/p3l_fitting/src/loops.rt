@@ -2,13 +2,12 @@
 
 ghost use Rattle.std.specs.Prelude.{◌≡◌, ◌↔◌, ◌≤◌, ◌<◌, ℕ, IsTrue};
 ghost use Rattle.std.specs.List.{All};
-ghost use Rattle.p3l_net.specs.Fitting.{FitsLoop, IsTurning, own_saved_at};
-ghost use Rattle.p3l_net.specs.Shot.{saved_at};
+ghost use Rattle.p3l_firing.specs.Shot.{own_saved_at, saved_at};
+ghost use Rattle.p3l_net.specs.Fitting.{FitsLoop, IsTurning};
 ghost use Rattle.p3l_fitting.specs.Decided.{LoopFits};
 ghost use Rattle.p3l_fitting.specs.Survey.{widths_of};
 
 use crate::numbers::{channel, most_tokens, most_turns};
-use crate::shots::{held, number, tokens};
 use crate::survey::LoopPlace;
 use p3l_firing::{Net, Proc};
 use p3l_net::{SavedToken, Shot};
@@ -52,7 +51,7 @@ fn sent_turn(ring: Ring, shot: &Shot, from: usize, to: usize) -> bool
         → All (IsTurning ring.depth ring.next ring.turns) (saved_at shot.now c)) }
 {
     for c in from..to {
-        if !are_turning(ring, tokens(shot, c)) {
+        if !are_turning(ring, shot.tokens(c)) {
             return false;
         }
     }
@@ -66,7 +65,7 @@ fn held_turn(ring: Ring, shot: &Shot, from: usize, to: usize) -> bool
         → All (IsTurning ring.depth ring.next ring.turns) (own_saved_at shot.now p).held) }
 {
     for p in from..to {
-        if !are_turning(ring, held(shot, p)) {
+        if !are_turning(ring, shot.held(p)) {
             return false;
         }
     }
@@ -86,9 +85,9 @@ fn fits_loop(
     ensures { IsTrue result
         ↔ FitsLoop tree.now net.now (widths_of row.now) shot.now place.now q.now }
 {
-    let head = number(shot, place.head);
-    let tail = number(shot, place.tail);
-    let credits = tokens(shot, channel(&q.ins, 2) as usize).len();
+    let head = shot.number(place.head);
+    let tail = shot.number(place.tail);
+    let credits = shot.tokens(channel(&q.ins, 2) as usize).len();
     let ring = Ring {
         depth: width_at(row, channel(&q.ins, 0) as usize).tags,
         next: head,

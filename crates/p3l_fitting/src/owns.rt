@@ -3,11 +3,10 @@
 ghost use Rattle.std.specs.Prelude.{◌≡◌, ◌↔◌, ◌≢◌, ◌≤◌, ◌<◌, ℕ, [], IsTrue, Some, length, slice_get};
 ghost use Rattle.p3l_firing.specs.declared.process.Proc.{Proc as TheProc};
 ghost use Rattle.p3l_firing.specs.declared.process.ProcKind.TheVariants as kinds;
-ghost use Rattle.p3l_net.specs.Fitting.{own_saved_at};
+ghost use Rattle.p3l_firing.specs.Shot.{own_saved_at};
 ghost use Rattle.p3l_fitting.specs.Decided.{HeldFits, OwnFits};
 
 use crate::numbers::{channel, last_element, part, room};
-use crate::shots::tokens;
 use crate::tokens::{are_credits, tokens_fit};
 use p3l_firing::{Net, Proc, ProcKind};
 use p3l_net::{Own, Shot};
@@ -81,7 +80,7 @@ fn head_fits(tree: &Tree, net: &Net, row: &[Width], shot: &Shot, q: &Proc, own: 
     ensures { IsTrue result
         ↔ OwnFits kinds.Head tree.now net.now row.now shot.now q.now own.now }
 {
-    own.held.is_empty() && are_credits(tokens(shot, channel(&q.ins, 2) as usize))
+    own.held.is_empty() && are_credits(shot.tokens(channel(&q.ins, 2) as usize))
 }
 
 /// Tests the saved local state of a tail.

@@ -15,7 +15,7 @@ use p3l_base::{List, NoMemory};
 use p3l_link::{NodeTemplate, part_of, template_of};
 use p3l_skel::tree::NESTING;
 use p3l_skel::{Counts, Tree};
-use p3l_template::{Kind, Place, Ports};
+use p3l_template::{Kind, Ports, Site};
 use std::alloc::Global;
 
 /// Surveys the linked net of a tree under these counts.
@@ -35,11 +35,11 @@ pub fn surveyed(alloc: Global, tree: &Tree, counts: &Counts) -> Result<Survey, N
 }
 
 // The place between two channels, after what is surveyed so far.
-fn place_after(survey: &Survey, at: &Ports) -> Place
+fn place_after(survey: &Survey, at: &Ports) -> Site
     requires { HasRoomAfter survey.now 0 0 }
     ensures { result ≡ base_after at.now survey.now }
 {
-    Place {
+    Site {
         input: at.input,
         output: at.output,
         proc: survey.procs as u32,
@@ -73,14 +73,14 @@ fn survey_node(
 {
     let template = template_of(tree, counts, number);
     let place = place_after(survey, at);
-    let seats = template.seats(alloc, &place)?;
+    let slots = template.slots(alloc, &place)?;
     begin(survey, &template, tree, number, tags, &place)?;
     let inner_tags = tags + template.deeper();
-    for seat in seats.as_slice() {
-        let part = part_of(tree, number, seat.part);
+    for slot in slots.as_slice() {
+        let part = part_of(tree, number, slot.part);
         let inner = Ports {
-            input: seat.input,
-            output: seat.output,
+            input: slot.input,
+            output: slot.output,
         };
         survey_node(
             alloc,
@@ -104,7 +104,7 @@ fn begin(
     tree: &Tree,
     number: u32,
     tags: u32,
-    place: &Place,
+    place: &Site,
 ) -> Result<(), NoMemory>
     requires fit { IsFit template.now }
     requires tags { tags + 2 < 2 ^ 32 }
@@ -120,7 +120,7 @@ fn begin(
 }
 
 // Adds the loop of a node that is placed there, if it is one, behind what was surveyed inside it.
-fn close(survey: &mut Survey, is_loop: bool, place: &Place) -> Result<(), NoMemory>
+fn close(survey: &mut Survey, is_loop: bool, place: &Site) -> Result<(), NoMemory>
     ensures { OnGiven result (survey.new ≡ record survey.old {
       loops = survey.old.loops
           ++ own_loops is_loop place.now.proc place.now.chan survey.old.procs

@@ -5,7 +5,7 @@ use Rattle.std.specs.List.{position_or_len}
 use Rattle.std.specs.Fmt.{decimal}
 use Rattle.std.specs.Str.Parse.{digits_value}
 use Rattle.p3l_format.specs.declared.fault.Cause.TheVariants.{Range}
-use Rattle.p3l_format.specs.declared.fault.Fault.{Fault}
+use Rattle.p3l_format.specs.declared.fault.FieldFault.{FieldFault}
 use Rattle.p3l_format.specs.Format.{Format, fault_at, within}
 use Rattle.p3l_format.specs.Numbers.{is_in}
 use Rattle.p3l_format.specs.Text.{then_text}
@@ -13,7 +13,7 @@ use Rattle.p3l_format.specs.Text.{then_text}
 abbrev pub is_no_digit : ℕ → Bool
 is_no_digit b = not (is_ascii_digit b)
 
--- how many digits are in front
+-- the number of digits in front
 abbrev pub digit_len : List ℕ → ℕ
 digit_len s = position_or_len is_no_digit s
 
@@ -27,7 +27,7 @@ abbrev pub number_of : ℕ → List ℕ → Option ℕ
 number_of limit digits =
     if bytes_eq (decimal (digits_value 10 digits)) digits && nat_lt (digits_value 10 digits) limit then Some (digits_value 10 digits) else None
 
-abbrev pub found : {A : Type 0} → Option A → List ℕ → List ℕ → Result (A × List ℕ) Fault
+abbrev pub found : {A : Type 0} → Option A → List ℕ → List ℕ → Result (A × List ℕ) FieldFault
 found None s rest = Err (fault_at Range s)
 found (Some v) s rest = Ok (v, rest)
 

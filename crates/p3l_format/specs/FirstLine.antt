@@ -2,7 +2,7 @@
 use Rattle.std.specs.Prelude.{◌≡◌, ℕ, ◌+◌, ◌==◌, ◌⊎◌, true, List, [], ◌∷◌, ◌++◌, count_by}
 use Rattle.p3l_format.specs.Format.{Format}
 
--- how many line feeds a text has
+-- the count of line feeds in a text
 abbrev pub feeds : List ℕ → ℕ
 feeds s = count_by (λ b. b == 10) s
 
@@ -23,7 +23,7 @@ pub record BeginAlike (s t : List ℕ) : Type 0 where
 abbrev pub Begins : {A : Type 0} → Format ℕ A → List ℕ → Type 0
 Begins {A = A} format s = (v : A) × (rest : List ℕ) × (format.fits v ≡ true) × (format.spell v ≡ s ++ rest)
 
--- The lines before it begin a spelling, and no spelling that goes on from them has this line. So a last line
+-- The lines before it begin a spelling, and no spelling that continues them has this line. So a last line
 -- with no line feed is itself at fault, and where a text ends early it is the line after its last.
 pub record IsFirstBadLine {A : Type 0} (format : Format ℕ A) (text : List ℕ) (line : ℕ) : Type 0 where
   -- the lines before it, and the others

@@ -1,7 +1,7 @@
 -- Lines, each ended by a line feed, and the lines in which faults are reported.
 use Rattle.std.specs.Prelude.{ℕ, List, [], ◌∷◌, length, take, Result, Ok, Err, ◌+◌, ◌-◌, ◌==◌, count_by}
 use Rattle.p3l_format.specs.declared.fault.Cause.TheVariants.{Range}
-use Rattle.p3l_format.specs.declared.fault.Fault.{Fault}
+use Rattle.p3l_format.specs.declared.fault.FieldFault.{FieldFault}
 use Rattle.p3l_format.specs.declared.fault.ReadError.{ReadError}
 use Rattle.p3l_format.specs.declared.fault.ReadError.TheVariants as errors
 use Rattle.p3l_format.specs.Format.{Format, fault_at}
@@ -9,7 +9,7 @@ use Rattle.p3l_format.specs.Text.{text_then}
 use Rattle.p3l_format.specs.Decimal.{number_then}
 
 -- a fault is reported at the start of the line
-abbrev pub at_line : {A : Type 0} → List ℕ → Result A Fault → Result A Fault
+abbrev pub at_line : {A : Type 0} → List ℕ → Result A FieldFault → Result A FieldFault
 at_line s (Ok x) = Ok x
 at_line s (Err fault) = Err (fault_at Range s)
 

@@ -1,7 +1,7 @@
 -- Places at which bytes are at fault, by the fields of spellings and not by how they are read.
 use Rattle.std.specs.Prelude.{◌≡◌, ◌≤◌, ℕ, Bool, true, List, [], ◌∷◌, ◌++◌, length, Err}
 use Rattle.p3l_format.specs.declared.fault.Cause.TheVariants.{Short}
-use Rattle.p3l_format.specs.declared.fault.Fault.{Fault}
+use Rattle.p3l_format.specs.declared.fault.FieldFault.{FieldFault}
 use Rattle.p3l_format.specs.Format.{Format, fault_at}
 use Rattle.p3l_format.specs.Lawful.{IsLawful}
 
@@ -26,7 +26,7 @@ NoneIsThere {A = A} fields fs rest =
 
 -- bytes are refused, and the field that is at fault begins where this many are left
 pub record FailsAt {A : Type 0} (format : Format ℕ A) (s : List ℕ) (left : ℕ) : Type 0 where
-  pub fault : Fault
+  pub fault : FieldFault
   pub refused : format.read s ≡ Err fault
   pub place : fault.left ≡ left
 
@@ -41,9 +41,9 @@ pub record IsPlaced {A : Type 0} (format : Format ℕ A) : Type 0 where
   -- some value, whether it fits or not
   pub some : A
   -- a fault begins within the bytes, or at their end
-  pub inside : (s : List ℕ) (fault : Fault) → format.read s ≡ Err fault → fault.left ≤ length s
+  pub inside : (s : List ℕ) (fault : FieldFault) → format.read s ≡ Err fault → fault.left ≤ length s
   -- not before the fields that the bytes share with a value
-  pub shared : (v : A) (fs more : List Piece) (rest : List ℕ) (fault : Fault) → format.fits v ≡ true → fields v ≡ fs ++ more
+  pub shared : (v : A) (fs more : List Piece) (rest : List ℕ) (fault : FieldFault) → format.fits v ≡ true → fields v ≡ fs ++ more
       → format.read (texts fs ++ rest) ≡ Err fault → fault.left ≤ length rest
   -- at the next field, if none is there
   pub next : (v : A) (fs more : List Piece) (f : Piece) (rest : List ℕ) → format.fits v ≡ true → fields v ≡ fs ++ f ∷ more → NoneIsThere fields fs rest

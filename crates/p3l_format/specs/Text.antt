@@ -1,16 +1,16 @@
 -- Texts that have to come before or after a value.
 use Rattle.std.specs.Prelude.{ℕ, List, [], ◌∷◌, ◌++◌, Option, Some, None, Result, Ok, Err, ◌==◌, if◌then◌else◌}
 use Rattle.p3l_format.specs.declared.fault.Cause.TheVariants.{Range}
-use Rattle.p3l_format.specs.declared.fault.Fault.{Fault}
+use Rattle.p3l_format.specs.declared.fault.FieldFault.{FieldFault}
 use Rattle.p3l_format.specs.Format.{Format, fault_at, ◌>>=◌}
 
--- what is after a text in front
+-- the rest after a text in front, if it is there
 abbrev pub after_text : List ℕ → List ℕ → Option (List ℕ)
 after_text [] s = Some s
 after_text (b ∷ bs) [] = None
 after_text (b ∷ bs) (c ∷ s) = if b == c then after_text bs s else None
 
-abbrev pub go_on : {A : Type 0} → (List ℕ → Result A Fault) → List ℕ → Option (List ℕ) → Result A Fault
+abbrev pub go_on : {A : Type 0} → (List ℕ → Result A FieldFault) → List ℕ → Option (List ℕ) → Result A FieldFault
 go_on read s None = Err (fault_at Range s)
 go_on read s (Some rest) = read rest
 

@@ -21,7 +21,7 @@ fn first_other(bytes: &[u8]) -> Option<usize>
     bytes.iter().position(|byte| !byte.is_ascii_digit())
 }
 
-// How many digits are in front.
+// Counts the digits in front.
 fn count_digits(bytes: &[u8]) -> usize
     ensures len { result ≡ digit_len bytes.now }
     ensures within { result ≤ length bytes.now }

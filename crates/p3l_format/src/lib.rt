@@ -11,7 +11,7 @@ pub mod text;
 pub mod whole;
 
 pub use decimal::{read_number_in, read_number_then, write_number, write_number_then};
-pub use fault::{Cause, Fault, ReadError};
+pub use fault::{Cause, FieldFault, ReadError};
 pub use field::{Field, ListField, read_so_many, write_each};
 pub use line::{NumberLine, fault_at, line_at};
 pub use number::{

@@ -10,8 +10,8 @@ use crate::text::strip;
 use p3l_base::{List, NoMemory};
 use std::alloc::Global;
 
-/// A kind of item in a series, whose format may depend on the item before. What it holds is what
-/// it depends on.
+/// A kind of item in a series, whose format may depend on the item before. It holds the facts
+/// that its format depends on.
 pub trait Item: Copy + Drop {
     /// The type of the item's value.
     type Value;

@@ -1,4 +1,4 @@
--- What is written is read: expressions, statements, and whole texts.
+-- Completeness of the parser: it reads every spelling of expressions, statements, and whole texts.
 use Rattle.std.proofs.Common.{◌≡◌, ℕ, ◌<◌, ◌≤◌, List, [], ◌∷◌, ◌++◌, Option, Some, None, Bool, true, false, refl, sym, ap, ◌∙◌, arith, append_assoc, append-nil}
 use Rattle.std.specs.Prelude.{nat_le}
 use Rattle.std.proofs.lemmas.Bool.Decides.{nat_tests}
@@ -21,7 +21,7 @@ use Rattle.p3l_lexer.specs.declared.mark.Mark.TheVariants as marks
 use Rattle.p3l_ast.specs.Notation.{level}
 use Rattle.p3l_grammar.specs.Symbol.{Symbol, sign, unary_mark, kind_mark}
 use Rattle.p3l_grammar.specs.Written as written
-use Rattle.p3l_grammar.specs.Written.{Formula, numeral, place, prefix, infix_, paren, Formulas, no_index, index, Script, stop, set, Signature, Passage, fixed, bodied, chained, spread, turned, tight, IsGrouped, AreGrouped, IsScript, HasOne, IsSignature, IsCall, AreCalls, IsChain, IsPassage, IsText, each, num_symbol, spell_call, spell, spell_index, spell_set, spell_script, spell_signature, spell_clause, spell_signed, spell_rescue, spell_rescue_clause, spell_local, spell_end, spell_passage, spell_text, tree, trees, script_tree, passage_tree, text_tree}
+use Rattle.p3l_grammar.specs.Written.{Formula, numeral, place, prefix, infix_, paren, Formulas, no_index, index, Script, stop, set, Signature, Passage, fixed, bodied, chained, spread, turned, tight, IsGrouped, AreGrouped, IsScript, HasOne, IsSignature, IsCall, AreCalls, IsPassage, IsText, each, num_symbol, spell_call, spell, spell_index, spell_set, spell_script, spell_signature, spell_clause, spell_signed, spell_rescue_clause, spell_local, spell_end, spell_passage, spell_text, tree, trees, script_tree, passage_tree, text_tree}
 use Rattle.p3l_grammar.specs.Parser.{need, Parser, entries, await, any_num, clause, any_rescue, rescue_clause, another_call, another_local, operand, another_index, value, another_stmt, maybe_else, Hole, whole, after_unary, after_binary, expression, call, block, setting_from, setting, end_of, otherwise, operand_step, infix_of, level_of, operator_step, step, value_step}
 use Rattle.p3l_grammar.proofs.Runs.{bind, run}
 use Rattle.p3l_grammar.proofs.Signatures.{bodied_tree, chained_tree, spread_tree, turned_tree, bodied_from, chain_from, piped_from, composed_from, spread_from, turned_from, PassesLocal, locals_run, signature_runs, call_from_runs, more_calls_run, num_runs}
@@ -120,7 +120,7 @@ PassesStmt r = (c : Statements) (go : Statements → Parser) → run (another_st
 abbrev pub PassesElse : List Symbol → Type 0
 PassesElse r = (c t : Statements) (e : Phrase) (go : Statements → Parser) → run (maybe_else c e t go) r ≡ run (go (join c (if_ e t done))) r
 
--- what statements begin with is no `else`
+-- no statement begins with `else`
 else_later : (d c b : Statements) (s : Script) (e : Phrase) (go : Statements → Parser) (r : List Symbol) → PassesStmt r → PassesElse r → run (maybe_else c e b go) (spell_script s r) ≡ run (another_stmt (join c (if_ e b done)) go) (spell_script s r)
 else_later d c b stop e go r h i = i c b e go ∙ sym (h (join c (if_ e b done)) go)
 else_later d c b (set x is f s) e go r h i = refl

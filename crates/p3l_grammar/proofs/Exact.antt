@@ -9,7 +9,7 @@ use Rattle.p3l_ast.specs.declared.call.OutArg.TheVariants.{Old}
 use Rattle.p3l_ast.specs.declared.module.Rescue.{Rescue}
 use Rattle.p3l_ast.specs.Tree.{Phrase, unary, binary, done, if_, join, EntryTree}
 use Rattle.p3l_lexer.specs.declared.mark.Mark.TheVariants as marks
-use Rattle.p3l_lexer.specs.declared.token.Token.{Token}
+use Rattle.p3l_lexer.specs.declared.token.TextToken.{TextToken}
 use Rattle.p3l_grammar.specs.Symbol.{Symbol, symbol, symbols, word, digits, sign}
 use Rattle.p3l_grammar.specs.Written.{Formula, numeral, prefix, infix_, Passage, tight, IsGrouped, IsText, spell, spell_text, tree, text_tree}
 use Rattle.p3l_grammar.specs.Parser.{need, Parser, entries, await, any_word, any_digits, any_num, clause, any_rescue, rescue_clause, another_size, any_sub, another_sub, another_port, another_arg, any_out, another_out, another_call, another_local, operand, another_index, value, another_stmt, maybe_else, Hole, whole, after_unary, after_binary, step, finish, value_finish, next, all}
@@ -20,14 +20,14 @@ use Rattle.p3l_grammar.proofs.Complete.{text_runs}
 use Rattle.p3l_grammar.proofs.Sound.{IsRead, IsHole, IfRead, num_stop, sub_stop, port_stop, arg_stop, out_stop, call_stop, local_stop, index_stop, stmt_stop, need_small, run_reads, starts_read}
 
 -- nothing goes on: at the end no program is whole, and with the next token none begins so
-abbrev pub IsRefused : List Token → List Token → Type 0
+abbrev pub IsRefused : List TextToken → List TextToken → Type 0
 IsRefused before [] = (entries : List EntryTree) → Derives (symbols before) entries → ⊥
 IsRefused before (token ∷ after) = IsViable (symbols (before ++ token ∷ [])) → ⊥
 
 -- the tokens begin a program up to where `left` of them are left, and no further
-pub record IsStop (tokens : List Token) (left : ℕ) : Type 0 where
-  pub before : List Token
-  pub after : List Token
+pub record IsStop (tokens : List TextToken) (left : ℕ) : Type 0 where
+  pub before : List TextToken
+  pub after : List TextToken
   pub whole : tokens ≡ before ++ after
   pub left_is : left ≡ length after
   pub viable : IsViable (symbols before)
@@ -53,7 +53,7 @@ seen_as : (f g : List Symbol → List Symbol) → f ≡ g → Completes g → Co
 seen_as f g p c = let P : (List Symbol → List Symbol) → Type 0 = λ q. Completes q in subst P (sym p) c
 
 mutual
-  -- what the parser has read begins some program
+  -- the symbols that the parser has read begin some program
   pub completes : (s : Parser) (f : List Symbol → List Symbol) → IsRead s f → Completes f
   completes (entries es) f h = record { more = []; written = h.0; is_text = h.1; begins = ap (λ q. q []) h.2 }
   completes (await m s) f h = passes_on f (λ r. sign m ∷ r) (completes s (λ r. f (sign m ∷ r)) h)
@@ -110,14 +110,14 @@ pub derives_run : (ts : List Symbol) (es : List EntryTree) → Derives ts es →
 derives_run ts es d =
     ap (run (entries [])) d.spelled ∙ text_runs d.written [] d.is_text ∙ ap (λ q. Some (entries q)) d.tree_is
 
--- where the parser goes on, some program goes on
+-- if the parser reads all symbols, they begin some program
 pub runs_viable : (ts : List Symbol) (s : Parser) → run (entries []) ts ≡ Some s → IsViable ts
 runs_viable ts s h =
     let P : Option Parser → Type 0 = λ o. IfRead o (λ r. ts ++ r) in
     let c = completes s (λ r. ts ++ r) (subst P h (run_reads ts (entries []) (λ r. r) starts_read)) in
     record { written = c.written; more = c.more; is_text = c.is_text; begins = c.begins }
 
--- where the parser stops, no program goes on
+-- if the parser stops, the symbols begin no program
 pub stops_not_viable : (ts : List Symbol) → run (entries []) ts ≡ None → IsViable ts → ⊥
 stops_not_viable ts h v =
     let all : run (entries []) (ts ++ v.more) ≡ Some (entries (text_tree v.written)) =
@@ -157,12 +157,12 @@ mutual
   hole_left (after_unary o h) e left p = hole_left h (unary o e) left p
   hole_left (after_binary o a h) e left p = hole_left h (binary o a e) left p
 
--- what comes after f is whole
+-- f puts the symbols of a whole program in front
 abbrev IsWhole : (List Symbol → List Symbol) → List EntryTree → Type 0
 IsWhole f es = (ws : List Passage) × IsText ws × (f ≡ spell_text ws) × (text_tree ws ≡ es)
 
 mutual
-  -- where the text may end, what was read is a whole program
+  -- if the text may end here, the symbols read are a whole program
   finish_whole : (s : Parser) (f : List Symbol → List Symbol) (es : List EntryTree) → IsRead s f → finish s ≡ Ok es → IsWhole f es
   finish_whole (entries ds) f es h p = (h.0, h.1, h.2, h.3 ∙ (cc))
   finish_whole (clause m go) f es h p = finish_whole (go None) f es (h None) p
@@ -200,22 +200,22 @@ mutual
       let P : (List Symbol → List Symbol) → Type 0 = λ q. IsWhole (λ r. q (spell w r)) es in
       subst P (sym i.2) (hole_whole h (binary o a e) (infix_ o i.0 w) i.1 es (i.4, n, i.5, gw) i.3 (ap (λ q. binary o q (tree w)) i.6 ∙ ap (binary o a) te) i.7 p)
 
--- what the parser does at the front of what is left
-abbrev Stopped : Parser → List Token → Type 0
+-- the parser can't read the next token, or none is left and it isn't between entries
+abbrev Stopped : Parser → List TextToken → Type 0
 Stopped s [] = (es : List EntryTree) → s ≡ entries es → ⊥
 Stopped s (t ∷ ts) = step s (symbol t) ≡ None
 
 -- the parser stops here
-record StopsAt (s : Parser) (ts : List Token) (left : ℕ) : Type 0 where
-  before : List Token
-  after : List Token
+record StopsAt (s : Parser) (ts : List TextToken) (left : ℕ) : Type 0 where
+  before : List TextToken
+  after : List TextToken
   state : Parser
   whole : ts ≡ before ++ after
   left_is : left ≡ length after
   runs : run s (symbols before) ≡ Some state
   stopped : Stopped state after
 
-stops_at : (ts : List Token) (s : Parser) (left : ℕ) → all s ts ≡ Err left → StopsAt s ts left
+stops_at : (ts : List TextToken) (s : Parser) (left : ℕ) → all s ts ≡ Err left → StopsAt s ts left
 stops_at [] s left h =
     record { before = []; after = []; state = s; whole = refl; left_is = finish_left s left h; runs = refl; stopped = λ es e. (let p = ap finish e in cc) }
 stops_at (t ∷ ts) s left h = at (step s (symbol t)) refl (stops_at ts) h
@@ -234,11 +234,11 @@ stops_at (t ∷ ts) s left h = at (step s (symbol t)) refl (stops_at ts) h
           stopped = r.stopped;
         }
 
-pub symbols_append : (a b : List Token) → symbols (a ++ b) ≡ symbols a ++ symbols b
+pub symbols_append : (a b : List TextToken) → symbols (a ++ b) ≡ symbols a ++ symbols b
 symbols_append [] b = refl
 symbols_append (t ∷ a) b = ap (λ q. symbol t ∷ q) (symbols_append a b)
 
-refused : (before after : List Token) (s : Parser) → run (entries []) (symbols before) ≡ Some s → Stopped s after → IsRefused before after
+refused : (before after : List TextToken) (s : Parser) → run (entries []) (symbols before) ≡ Some s → Stopped s after → IsRefused before after
 refused before [] s r h = λ es d. h es (let a = derives_run (symbols before) es d in cc)
 refused before (t ∷ after) s r h =
     stops_not_viable (symbols (before ++ t ∷ []))
@@ -247,7 +247,7 @@ refused before (t ∷ after) s r h =
     ∙ ap (λ o. bind o (λ s'. run s' (symbol t ∷ []))) r
     ∙ ap (λ o. bind o (λ s'. Some s')) h)
 
-pub stop_of : (ts : List Token) (left : ℕ) → all (entries []) ts ≡ Err left → IsStop ts left
+pub stop_of : (ts : List TextToken) (left : ℕ) → all (entries []) ts ≡ Err left → IsStop ts left
 stop_of ts left h =
     let s = stops_at ts (entries []) left h in
     record {
@@ -260,7 +260,7 @@ stop_of ts left h =
     }
 
 -- the parser's run, from its answer, and back
-all_run : (ts : List Token) (s : Parser) → all s ts ≡ elim (run s (symbols ts)) [ None ↦ all s ts | Some s' ↦ finish s' ]
+all_run : (ts : List TextToken) (s : Parser) → all s ts ≡ elim (run s (symbols ts)) [ None ↦ all s ts | Some s' ↦ finish s' ]
 all_run [] s = refl
 all_run (t ∷ ts) s = at (step s (symbol t)) (all_run ts)
   where
@@ -268,17 +268,17 @@ all_run (t ∷ ts) s = at (step s (symbol t)) (all_run ts)
     at None ih = refl
     at (Some s') ih = ih s'
 
-pub all_of_derives : (ts : List Token) (es : List EntryTree) → Derives (symbols ts) es → all (entries []) ts ≡ Ok es
+pub all_of_derives : (ts : List TextToken) (es : List EntryTree) → Derives (symbols ts) es → all (entries []) ts ≡ Ok es
 all_of_derives ts es d =
     all_run ts (entries []) ∙ ap (λ o. elim o [ None ↦ all (entries []) ts | Some s' ↦ finish s' ]) (derives_run (symbols ts) es d)
 
 -- after all tokens the text may end
-record Ended (s : Parser) (ts : List Token) (es : List EntryTree) : Type 0 where
+record Ended (s : Parser) (ts : List TextToken) (es : List EntryTree) : Type 0 where
   state : Parser
   runs : run s (symbols ts) ≡ Some state
   finishes : finish state ≡ Ok es
 
-ended_at : (ts : List Token) (s : Parser) (es : List EntryTree) → all s ts ≡ Ok es → Ended s ts es
+ended_at : (ts : List TextToken) (s : Parser) (es : List EntryTree) → all s ts ≡ Ok es → Ended s ts es
 ended_at [] s es h = record { state = s; runs = refl; finishes = h }
 ended_at (t ∷ ts) s es h = at (step s (symbol t)) refl (ended_at ts) h
   where
@@ -288,7 +288,7 @@ ended_at (t ∷ ts) s es h = at (step s (symbol t)) refl (ended_at ts) h
         let r = ih s' es h in
         record { state = r.state; runs = ap (λ q. bind q (λ s'. run s' (symbols ts))) p ∙ r.runs; finishes = r.finishes }
 
-pub derives_of_all : (ts : List Token) (es : List EntryTree) → all (entries []) ts ≡ Ok es → Derives (symbols ts) es
+pub derives_of_all : (ts : List TextToken) (es : List EntryTree) → all (entries []) ts ≡ Ok es → Derives (symbols ts) es
 derives_of_all ts es h =
     let e = ended_at ts (entries []) es h in
     let P : Option Parser → Type 0 = λ o. IfRead o (λ r. symbols ts ++ r) in

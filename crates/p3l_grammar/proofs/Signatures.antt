@@ -1,4 +1,4 @@
--- What is written of heads and calls is read, up to what follows it.
+-- Spellings of heads and calls are read, up to the symbols that follow them.
 use Rattle.std.proofs.Common.{◌≡◌, List, [], ◌∷◌, ◌++◌, refl, sym, ap, ◌∙◌, append_assoc, append-nil}
 use Rattle.p3l_ast.specs.declared.port.Num.{Num}
 use Rattle.p3l_ast.specs.declared.port.Num.TheVariants.{Digits, Named}

@@ -1,4 +1,4 @@
--- What the parser has read is written so, and some program goes on with it.
+-- Soundness of the parser: the symbols that it has read are spelled so, and some program begins with them.
 use Rattle.std.proofs.Common.{◌≡◌, ℕ, suc, ℤ, ◌<◌, ◌≤◌, List, [], ◌∷◌, ◌++◌, Option, Some, None, Bool, true, false, cond, refl, sym, ap, ◌∙◌, subst, arith, append_assoc, append-nil}
 use Rattle.std.specs.Prelude.{nat_le}
 use Rattle.std.proofs.lemmas.Bool.Decides.{nat_tests}
@@ -463,7 +463,7 @@ bind_reads : (o : Option Parser) (t : Symbol) (ts : List Symbol) (f : List Symbo
 bind_reads None t ts f ih h = tt
 bind_reads (Some s) t ts f ih h = ih s (Then f t) h
 
--- whatever the parser reads is kept in its state
+-- the parser keeps all symbols that it reads in its state
 pub run_reads : (ts : List Symbol) (s : Parser) (f : List Symbol → List Symbol) → IsRead s f → IfRead (run s ts) (λ r. f (ts ++ r))
 run_reads [] s f h = h
 run_reads (t ∷ ts) s f h = bind_reads (step s t) t ts f (run_reads ts) (step_reads s t f h)

@@ -6,7 +6,7 @@ use Rattle.p3l_ast.specs.declared.refusal.Fault.TheVariants.{Expected, TooNested
 use Rattle.p3l_ast.specs.Tree.{EntryTree, ProgramTree}
 use Rattle.p3l_lexer.specs.declared.token.Lexeme.{Lexeme}
 use Rattle.p3l_lexer.specs.declared.token.Lexeme.TheVariants.{Faulty}
-use Rattle.p3l_lexer.specs.declared.token.Token.{Token}
+use Rattle.p3l_lexer.specs.declared.token.TextToken.{TextToken}
 use Rattle.p3l_lexer.specs.Token.{IsTokens}
 use Rattle.p3l_lexer.specs.Position.{position_after}
 use Rattle.p3l_grammar.specs.Symbol.{Symbol, symbols}
@@ -29,7 +29,7 @@ pub record IsViable (symbols : List Symbol) : Type 0 where
 
 -- the text is written for this program, and passes no limit
 pub record Spells (bytes : List ℕ) (program : ProgramTree) : Type 0 where
-  pub tokens : List Token
+  pub tokens : List TextToken
   pub are_tokens : IsTokens bytes tokens
   pub derives : Derives (symbols tokens) program.entries
   pub within : IsWithin at_rest (symbols tokens)
@@ -44,17 +44,17 @@ IsFaultOf _ TooNested upto = IsViable upto × IsPast (nest_after at_rest upto)
 IsFaultOf _ _ upto = ⊥
 
 -- the fault at the front of the tokens that are left, and its position, at the end after the last byte
-abbrev pub IsWrong : List ℕ → List Token → List Token → Fault → Pos → Type 0
+abbrev pub IsWrong : List ℕ → List TextToken → List TextToken → Fault → Pos → Type 0
 IsWrong bytes before [] fault at =
     (fault ≡ Expected) × (at ≡ position_after bytes) × ((entries : List EntryTree) → Derives (symbols before) entries → ⊥)
 IsWrong bytes before (token ∷ after) fault at = (at ≡ token.at) × IsFaultOf token.lexeme fault (symbols (before ++ token ∷ []))
 
 -- the first fault of the text: all before it begins a program and passes no limit
 pub record IsFirstFault (bytes : List ℕ) (fault : Fault) (at : Pos) : Type 0 where
-  pub tokens : List Token
+  pub tokens : List TextToken
   pub are_tokens : IsTokens bytes tokens
-  pub before : List Token
-  pub after : List Token
+  pub before : List TextToken
+  pub after : List TextToken
   pub whole : tokens ≡ before ++ after
   pub viable : IsViable (symbols before)
   pub within : IsWithin at_rest (symbols before)

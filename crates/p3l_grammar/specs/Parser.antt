@@ -22,14 +22,14 @@ use Rattle.p3l_ast.specs.declared.module.Rescue.{Rescue}
 use Rattle.p3l_ast.specs.Tree.{Phrase, number, read, unary, binary, Phrases, none, snoc, Statements, done, assign, if_, if_else, while_, for_, join, body, turning, InsideTree, EntryTree, constant}
 use Rattle.p3l_lexer.specs.declared.mark.Mark.{Mark}
 use Rattle.p3l_lexer.specs.declared.mark.Mark.TheVariants as marks
-use Rattle.p3l_lexer.specs.declared.token.Token.{Token}
+use Rattle.p3l_lexer.specs.declared.token.TextToken.{TextToken}
 use Rattle.p3l_ast.specs.Notation.{level}
 use Rattle.p3l_lexer.specs.Mark.{mark_text}
 use Rattle.p3l_grammar.specs.Symbol.{symbol, Symbol, word, digits, sign, kind_mark}
 use Rattle.p3l_grammar.specs.Written.{Signature, Filling, body_filling, chain_filling, spread_filling, turning_filling, module_of}
 
 mutual
-  -- What comes next. `another` means: one more of these, or what comes after them.
+  -- The symbols that may come next. `another` means one more element of a list, or the symbols after the list.
   pub data Parser : Type 0 where
     entries : List EntryTree → Parser
     await : Mark → Parser → Parser
@@ -54,7 +54,7 @@ mutual
     another_stmt : Statements → (Statements → Parser) → Parser
     maybe_else : Statements → Phrase → Statements → (Statements → Parser) → Parser
 
-  -- where an operand is in its expression
+  -- the place of an operand in its expression
   pub data Hole : Type 0 where
     whole : (Phrase → Parser) → Hole
     after_unary : UnOp → Hole → Hole
@@ -199,7 +199,7 @@ module_from k go = head (λ h. filling k (λ f. end_of k (go (module_of k h f)))
 
 -- One symbol.
 
--- where the symbol is none of these, what comes after decides
+-- the parser for the symbol, if there is one, and else the next
 abbrev pub otherwise : Option Parser → Option Parser → Option Parser
 otherwise None next = next
 otherwise (Some s) next = Some s
@@ -316,7 +316,7 @@ abbrev pub infix_of : Symbol → Option BinOp
 infix_of (sign (marks.Operator o)) = Some o
 infix_of _ = None
 
--- what comes before the next symbol is put together down to this level
+-- the level down to which operands before the next symbol are joined, 0 if it is no operator
 abbrev pub level_of : Option BinOp → ℕ
 level_of None = 0
 level_of (Some o) = level o
@@ -399,6 +399,6 @@ next None left f = Err left
 next (Some s) left f = f s
 
 -- the program that the tokens are from a state on, or how many are left at the first that is refused
-abbrev pub all : Parser → List Token → Result (List EntryTree) ℕ
+abbrev pub all : Parser → List TextToken → Result (List EntryTree) ℕ
 all s [] = finish s
 all s (t ∷ ts) = next (step s (symbol t)) (suc (length ts)) (λ s'. all s' ts)

@@ -11,7 +11,7 @@ use Rattle.p3l_lexer.specs.declared.mark.Mark.{Mark}
 use Rattle.p3l_lexer.specs.declared.mark.Mark.TheVariants as marks
 use Rattle.p3l_lexer.specs.declared.token.Lexeme.{Lexeme}
 use Rattle.p3l_lexer.specs.declared.token.Lexeme.TheVariants as lexemes
-use Rattle.p3l_lexer.specs.declared.token.Token.{Token}
+use Rattle.p3l_lexer.specs.declared.token.TextToken.{TextToken}
 
 -- a token with the positions that a program keeps
 pub data Symbol : Type 0 where
@@ -26,10 +26,10 @@ symbol_at (lexemes.Digits v) at = digits v at
 symbol_at (lexemes.Sign m) at = sign m
 symbol_at (lexemes.Faulty f) at = faulty
 
-abbrev pub symbol : Token → Symbol
+abbrev pub symbol : TextToken → Symbol
 symbol token = symbol_at token.lexeme token.at
 
-abbrev pub symbols : List Token → List Symbol
+abbrev pub symbols : List TextToken → List Symbol
 symbols tokens = map symbol tokens
 
 -- the mark of an operator before its operand

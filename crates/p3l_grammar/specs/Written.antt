@@ -64,7 +64,7 @@ pub data Passage : Type 0 where
   spread : Kind → Signature → Option Num → Call → Passage
   turned : Signature → Num → Option Num → Call → Call → Passage
 
--- Which of these are texts of the language.
+-- Conditions under which these are texts of the language.
 
 -- the level of the outermost construct of an expression
 abbrev pub tight : Formula → ℕ

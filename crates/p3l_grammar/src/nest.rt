@@ -4,7 +4,7 @@ ghost use Rattle.std.specs.Prelude.{◌≡◌, ◌<◌, ◌≤◌, ◌↔◌, su
 ghost use Rattle.p3l_grammar.specs.Symbol.{symbol, symbols};
 ghost use Rattle.p3l_grammar.specs.Limits.{role_of, at_rest, at_statement, at_part, after_semicolon, after_bracket, after_role, before_body, after_symbol, nest_after, IsKept, IsPast, IsWithin};
 
-use p3l_lexer::{Lexeme, Mark, Token};
+use p3l_lexer::{Lexeme, Mark, TextToken};
 
 /// The effect of a mark on the nesting of a body.
 #[derive(Clone, Copy, Debug, Drop, PartialEq, Eq)]
@@ -189,7 +189,7 @@ impl Nest {
     }
 
     /// After one more token.
-    pub fn after(self, token: &Token) -> Nest
+    pub fn after(self, token: &TextToken) -> Nest
         requires { IsKept self }
         ensures { result ≡ after_symbol self (symbol token.now) }
     {
@@ -213,7 +213,7 @@ impl Nest {
 }
 
 /// The first token that passes a limit.
-pub fn first_past(tokens: &[Token]) -> Option<usize>
+pub fn first_past(tokens: &[TextToken]) -> Option<usize>
     ensures none { IfNone result (IsWithin at_rest (symbols tokens.now)) }
     ensures inside { IfSome result (λ i. i < length tokens.now) }
     ensures before { IfSome result (λ i. IsWithin at_rest (symbols (take i tokens.now))) }

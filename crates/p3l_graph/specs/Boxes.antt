@@ -10,7 +10,7 @@ use Rattle.p3l_firing.specs.declared.process.ProcKind.{ProcKind}
 use Rattle.p3l_firing.specs.declared.process.ProcKind.TheVariants.{Source, Sink, Run, Emit, Collect, Scatter, Gather, Split, FoldGather, Join, Head, Tail}
 use Rattle.p3l_net.specs.Steps.{Ends}
 
--- how a process is called in the picture, by what it does
+-- the name of a process in the picture, by its kind
 abbrev pub kind_name : ProcKind → List ℕ
 kind_name Source = codes "source"
 kind_name Sink = codes "sink"
@@ -40,7 +40,7 @@ name_in (Some info) = info.name
 abbrev pub name_at : Tree → ℕ → List ℕ
 name_at tree node = name_in (slice_get tree.modules (node_at tree node).module)
 
--- what stands in the box of a process: its number, what it does, and its module
+-- the label in the box of a process: its number, its kind's name, and its module
 abbrev pub label_of : Tree → ℕ → Proc → List ℕ
 label_of tree number process =
     decimal number ++ (codes " " ++ (kind_name process.kind

@@ -13,7 +13,7 @@ use Rattle.p3l_firing.specs.declared.process.Proc.{Proc}
 use Rattle.p3l_graph.specs.Boxes.{is_placed, name_at}
 use Rattle.p3l_graph.specs.Numbered.{numbered}
 
--- how the frame of a node of this form is called; a node that one process runs has no frame
+-- the name of the frame of a node of this form; a node that one process runs has no frame
 abbrev pub frame_name : Form → Option (List ℕ)
 frame_name Seq = None
 frame_name Comp = None
@@ -39,7 +39,7 @@ frame_head tree node kind =
     codes "  subgraph cluster_" ++ (decimal node ++ (codes " {\n    label=\"" ++ (decimal node ++ (codes " " ++ (kind
     ++ (codes " " ++ (name_at tree node ++ codes "\";\n")))))))
 
--- what is framed, where there is a frame
+-- the inner text in its frame, if there is one
 abbrev pub framed : Tree → ℕ → Option (List ℕ) → List ℕ → List ℕ
 framed tree node None inner = inner
 framed tree node (Some kind) inner = frame_head tree node kind ++ (inner ++ codes "  }\n")

@@ -7,7 +7,7 @@ use Rattle.p3l_graph.specs.Boxes.{channel_line, process_line}
 use Rattle.p3l_graph.specs.Frames.{frames}
 use Rattle.p3l_graph.specs.Numbered.{numbered}
 
--- what stands before the boxes
+-- the text before the boxes
 abbrev pub head : List ℕ
 head = codes "digraph network {\n  rankdir=LR;\n  node [shape=box];\n"
 

@@ -5,7 +5,7 @@ use Rattle.std.specs.Option.{option_and_then, option_map}
 use Rattle.p3l_help.specs.declared.flag.Flag.{Flag}
 use Rattle.p3l_help.specs.declared.flag.Flag.TheVariants.{Help, Version}
 
--- what a word requests
+-- the flag that a word requests, if any
 abbrev pub flag_of : List ℕ → Option Flag
 flag_of word =
     cond (bytes_eq word (codes "--help") || bytes_eq word (codes "-h")) (Some Help)
@@ -16,7 +16,7 @@ abbrev pub words_before : Option ℕ → List (Bor (List ℕ)) → List (Bor (Li
 words_before (Some end) words = take end words
 words_before None words = words
 
--- where the first `--` is
+-- the place of the first `--`
 abbrev pub dashes_in : List (Bor (List ℕ)) → Option ℕ
 dashes_in words = position (λ word. bytes_eq word.now (codes "--")) words
 
@@ -28,7 +28,7 @@ before_dashes words = words_before (dashes_in words) words
 abbrev pub request_among : List (Bor (List ℕ)) → Option (List ℕ)
 request_among words = option_map (λ word. word.now) (find (λ word. is_some (flag_of word.now)) words)
 
--- what the first word before `--` that requests something requests
+-- the flag requested by the first word before `--` that requests one
 abbrev pub first_flag : List (Bor (List ℕ)) → Option Flag
 first_flag words = option_and_then flag_of (request_among (before_dashes words))
 

@@ -1,4 +1,4 @@
--- Which words request which page.
+-- The page that words request.
 use Rattle.std.specs.Prelude.{ℕ, Bool, cond, List, Option, Some, None, bytes_eq, codes, drop, is_some, slice_get}
 use Rattle.std.specs.Borrow.{Bor}
 use Rattle.std.specs.Option.{option_and_then}

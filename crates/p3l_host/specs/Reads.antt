@@ -1,4 +1,4 @@
--- What the reading of a file does to the bytes that its reader has left, where those are known.
+-- The effect of reading a file on the bytes that its reader has left, where those are known.
 use Rattle.std.specs.Prelude.{◌≡◌, ℕ, ◌+◌, ◌≤◌, List, length, Option, Result, Ok, Err}
 use Rattle.std.specs.Io.KnownBytes.{Consumes, IsAtEnd}
 use Rattle.p3l_io.specs.declared.fault.FileFault.{FileFault}

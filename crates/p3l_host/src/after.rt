@@ -1,6 +1,7 @@
-// What comes after the output: a read that may wait, and a line of the standard error.
+// Calls that come after the output: a read that may wait, and a line of the standard error.
 
 ghost use Rattle.std.specs.Prelude.{◌≡◌};
+ghost use Rattle.p3l_io.specs.Change.{stream};
 
 use crate::gather::Output;
 use crate::retry::faults_after;
@@ -33,9 +34,7 @@ impl<'a, S: Source + Drop, W: Write + Drop> SourceAfter<'a, S, W> {
 }
 
 impl<'a, S: Source + Drop, W: Write + Drop> Source for SourceAfter<'a, S, W> {
-    ghost rest = { S.rest };
-
-    ghost faults = { S.faults };
+    ghost observed = { S.observed };
 
     fn take(&mut self, buf: &mut [u8]) -> Result<usize, Failed> {
         let _ = self.output.flush();
@@ -81,9 +80,7 @@ impl<'a, S: Sink + Drop, W: Write + Drop> SinkAfter<'a, S, W> {
 }
 
 impl<'a, S: Sink + Drop, W: Write + Drop> Sink for SinkAfter<'a, S, W> {
-    ghost taken = { λ s. S.taken s.0 };
-
-    ghost faults = { λ s. s.1 };
+    ghost observed = { λ s. stream (S.observed s.0).content s.1 };
 
     fn put(&mut self, piece: &[u8]) -> Result<(), Failed> {
         let answer = match self.output.flush() {

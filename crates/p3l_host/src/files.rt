@@ -2,8 +2,9 @@
 
 ghost use Rattle.std.specs.Prelude.{◌≡◌, ◌≤◌, None, Some, true, length, IfOk, OnErr};
 ghost use Rattle.p3l_base.specs.Memory.{OnGiven};
-ghost use Rattle.p3l_host.specs.Faults.{IsAfterFault};
+ghost use Rattle.p3l_host.specs.Faults.{IsAfterFault, observation};
 ghost use Rattle.p3l_host.specs.Reads.{ReadsWithin};
+ghost use Rattle.p3l_io.specs.Change.{change};
 
 use crate::gather::Output;
 use crate::inputs::{Inputs, id_of};
@@ -57,7 +58,8 @@ impl<'a, R: rt::Files, W: Write + Drop> HostFiles<'a, R, W> {
 
     /// Counts a fault of the file of this name, unless memory for the name runs out.
     fn fail(&mut self, alloc: Global, name: &str) -> Result<(), NoMemory>
-        ensures counted { OnGiven result (IsAfterFault self.old self.new name.now) }
+        ensures counted { OnGiven result (IsAfterFault
+            (change (observation self.old) (observation self.new)) name.now) }
         ensures same { OnErr result (self.new ≡ self.old) }
     {
         self.failed = Some(Name::from_text(alloc, name)?);
@@ -67,11 +69,7 @@ impl<'a, R: rt::Files, W: Write + Drop> HostFiles<'a, R, W> {
 }
 
 impl<'a, R: rt::Files, W: Write + Drop> Files for HostFiles<'a, R, W> {
-    ghost held = { λ _. None };
-
-    ghost faults = { λ faults. faults.count };
-
-    ghost failed = { λ faults. faults.failed };
+    ghost observed = { observation };
 
     ghost may_want = { true };
 

@@ -1,6 +1,7 @@
 // The standard input.
 
 ghost use Rattle.std.specs.Prelude.{◌≡◌, None};
+ghost use Rattle.p3l_io.specs.Change.{stream};
 
 use crate::retry::{faults_after, read_into};
 use p3l_io::{Failed, Source};
@@ -32,9 +33,7 @@ impl<R: Read + Drop> HostIn<R> {
 }
 
 impl<R: Read + Drop> Source for HostIn<R> {
-    ghost rest = { λ _. None };
-
-    ghost faults = { λ faults. faults };
+    ghost observed = { stream None };
 
     fn take(&mut self, buf: &mut [u8]) -> Result<usize, Failed> {
         let answer = read_into(&mut self.reader, buf);

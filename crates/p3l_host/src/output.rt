@@ -1,6 +1,7 @@
 // The standard output and the standard error.
 
 ghost use Rattle.std.specs.Prelude.{◌≡◌, None};
+ghost use Rattle.p3l_io.specs.Change.{stream};
 
 use crate::gather::Output;
 use crate::retry::{faults_after, write_from};
@@ -33,9 +34,7 @@ impl<'a, W: Write + Drop> HostOut<'a, W> {
 }
 
 impl<'a, W: Write + Drop> Sink for HostOut<'a, W> {
-    ghost taken = { λ _. None };
-
-    ghost faults = { λ faults. faults };
+    ghost observed = { stream None };
 
     fn put(&mut self, piece: &[u8]) -> Result<(), Failed> {
         let answer = self.output.put(piece);
@@ -70,9 +69,7 @@ impl<W: Write + Drop> HostErr<W> {
 }
 
 impl<W: Write + Drop> Sink for HostErr<W> {
-    ghost taken = { λ _. None };
-
-    ghost faults = { λ faults. faults };
+    ghost observed = { stream None };
 
     fn put(&mut self, piece: &[u8]) -> Result<(), Failed> {
         let answer = write_from(&mut self.writer, piece);

@@ -2,12 +2,11 @@
 use Rattle.std.proofs.Common.{◌≡◌, ℕ, ◌+◌, ◌-◌, Bool, true, false, cond, eqb, List, [], ◌∷◌, ◌++◌, length, Result, Ok, Err, refl, sym, ap, subst, ◌∙◌, arith}
 use Rattle.std.proofs.lemmas.Bool.{eqb-true}
 use Rattle.std.proofs.lemmas.List.{length-append}
-use Rattle.p3l_base.specs.Memory.{Refused}
 use Rattle.p3l_format.specs.declared.fault.Cause.{Cause}
 use Rattle.p3l_format.specs.declared.fault.Cause.TheVariants.{Short, Range, More}
-use Rattle.p3l_format.specs.declared.fault.Fault.{Fault}
-use Rattle.p3l_format.specs.Format.{fault_at, read_all, ◌>>=◌}
-use Rattle.p3l_format.specs.Places.{IsCutOff, NoneIsThere, Piece, texts}
+use Rattle.p3l_format.specs.declared.fault.FieldFault.{FieldFault}
+use Rattle.p3l_format.specs.Format.{fault_at, ◌>>=◌}
+use Rattle.p3l_format.specs.Places.{Piece, texts}
 use Rattle.p3l_tree_format.specs.declared.version.Version.{Version}
 use Rattle.p3l_image.specs.declared.image.Image.{Image}
 use Rattle.p3l_image.specs.declared.image.ImageRefusal.{ImageRefusal}
@@ -30,11 +29,11 @@ refused_at bytes More n place is = is
 refused_at bytes Range n place is = range_at bytes n place (eqb n 0) (eqb n 4) is refl refl
 
 -- a reading that fails in an image's format fails for the whole
-fails_whole : (bytes : List ℕ) (fault : Fault) → image_format.read bytes ≡ Err fault → image_in bytes ≡ Err fault
+fails_whole : (bytes : List ℕ) (fault : FieldFault) → image_format.read bytes ≡ Err fault → image_in bytes ≡ Err fault
 fails_whole bytes fault is = rw is refl
 
--- what is answered where reading fails with this many bytes left
-answered_at : (bytes : List ℕ) (answer : Result Image ImageRefusal) (fault : Fault) (place : ℕ) → Answers bytes answer (Err fault) → length bytes - fault.left ≡ place → IsRefusedAt place answer
+-- the answer if reading fails with this many bytes left
+answered_at : (bytes : List ℕ) (answer : Result Image ImageRefusal) (fault : FieldFault) (place : ℕ) → Answers bytes answer (Err fault) → length bytes - fault.left ≡ place → IsRefusedAt place answer
 answered_at bytes (Ok image) fault place is at = absurd cc
 answered_at bytes (Err refusals.NoMemory) fault place is at = is
 answered_at bytes (Err refusals.BadMagic) fault place is at = subst (IsRefusedAt place) (sym is) (refused_at bytes fault.cause (length bytes - fault.left) place at)
@@ -81,7 +80,7 @@ refusal_known bytes Short n is = cc
 refusal_known bytes More n is = cc
 refusal_known bytes Range n is = range_known bytes n (eqb n 0) (eqb n 4) is
 
-known_answer : (bytes : List ℕ) (refusal : ImageRefusal) (read : Result Image Fault) → (refusal ≡ refusals.NoMemory → ⊥) → Err refusal ≡ answer_of bytes read → Answers bytes (Err refusal) read
+known_answer : (bytes : List ℕ) (refusal : ImageRefusal) (read : Result Image FieldFault) → (refusal ≡ refusals.NoMemory → ⊥) → Err refusal ≡ answer_of bytes read → Answers bytes (Err refusal) read
 known_answer bytes refusals.NoMemory read known is = absurd (known refl)
 known_answer bytes refusals.BadMagic read known is = is
 known_answer bytes (refusals.Version n) read known is = is
@@ -90,7 +89,7 @@ known_answer bytes (refusals.BadField n) read known is = is
 known_answer bytes (refusals.TrailingBytes n) read known is = is
 
 -- the refusal of a fault is at the first one
-pub refusal_at_first : (bytes : List ℕ) (fault : Fault) (refusal : ImageRefusal) → image_in bytes ≡ Err fault → refusal ≡ refusal_of bytes fault → IsAtFirstFault bytes (Err refusal)
+pub refusal_at_first : (bytes : List ℕ) (fault : FieldFault) (refusal : ImageRefusal) → image_in bytes ≡ Err fault → refusal ≡ refusal_of bytes fault → IsAtFirstFault bytes (Err refusal)
 refusal_at_first bytes fault refusal fails is =
     at_first bytes (Err refusal)
     (known_answer bytes refusal (image_in bytes) (λ memory. refusal_known bytes fault.cause (length bytes - fault.left) (sym is ∙ memory)) (ap (λ (r : ImageRefusal). Err r) is ∙ ap (answer_of bytes) (sym fails)))

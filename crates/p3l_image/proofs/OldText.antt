@@ -1,4 +1,4 @@
--- Which images have a spelling in version 1.
+-- The images that have a spelling in version 1.
 use Rattle.std.proofs.Common.{◌≡◌, ℤ, true, ◌&&◌, List, [], ◌∷◌, length, Option, Some, None, refl, sym, subst}
 use Rattle.std.specs.List.{All, AllByRecursion, list_all}
 use Rattle.std.proofs.lemmas.List.Elements.{All-from_recursion, recursion_from_All}
@@ -13,7 +13,7 @@ use Rattle.p3l_tree_format.specs.declared.version.Version.TheVariants.{One, Two}
 use Rattle.p3l_tree_format.specs.Version.{version_format}
 use Rattle.p3l_tree_format.specs.Rescue.{flag_format, number_format, rescue_format}
 use Rattle.p3l_tree_format.specs.Module.{kind_format, name_format, module_format}
-use Rattle.p3l_tree_format.specs.Tree.{modules_format, nodes_format, tree_format}
+use Rattle.p3l_tree_format.specs.Tree.{modules_format, tree_format}
 use Rattle.p3l_image.specs.declared.image.Image.{Image}
 use Rattle.p3l_image.specs.Image.{magic, body_format, image_format, CanBeWritten, HasNoRescue, OldTextsHaveNoRescue}
 
@@ -114,7 +114,7 @@ old_texts image = (
       (tree_alike Two One image.tree (tree_of Two image new.0) (recursion_from_All HasNoRescue image.tree.modules new.1)),
 )
 
--- what has a spelling in some version has one in version 2
+-- an image with a spelling in some version has one in version 2
 pub written_anew : (version : Version) (image : Image) → image_format.fits (version, image) ≡ true → CanBeWritten image
 written_anew One image fits = ((old_texts image).0 fits).0
 written_anew Two image fits = fits

@@ -4,7 +4,7 @@ use Rattle.std.specs.List.{All}
 use Rattle.p3l_base.specs.Limits.{most_tokens}
 use Rattle.p3l_skel.specs.declared.tree.ModuleInfo.{ModuleInfo}
 use Rattle.p3l_image.specs.declared.image.Image.{Image}
-use Rattle.p3l_format.specs.declared.fault.Fault.{Fault}
+use Rattle.p3l_format.specs.declared.fault.FieldFault.{FieldFault}
 use Rattle.p3l_format.specs.Format.{Format, ◌>>=◌, both, pair, record_of, after, read_all}
 use Rattle.p3l_format.specs.Numbers.{u32_in}
 use Rattle.p3l_tree_format.specs.declared.version.Version.{Version}
@@ -18,7 +18,7 @@ use Rattle.p3l_image.specs.Net.{net_format}
 abbrev pub magic : ℕ
 magic = 1345539145
 
--- what comes after the magic number and the version
+-- the format after the magic number and the version
 unfoldable pub body_format : Version → Format ℕ Image
 body_format version = record_of
     (λ p. record { cap = p.0; tree = p.1.0; counts = record { list = p.1.1.0 }; codes = p.1.1.1.0; net = p.1.1.1.1 })
@@ -30,7 +30,7 @@ unfoldable pub image_format : Format ℕ (Version × Image)
 image_format = after (u32_in magic magic) magic (pair version_format body_format)
 
 -- the image that bytes spell, whatever its version, or their first fault
-abbrev pub image_in : List ℕ → Result Image Fault
+abbrev pub image_in : List ℕ → Result Image FieldFault
 image_in bytes = read_all image_format bytes >>= λ x. Ok x.1
 
 -- the fields of an image are in their ranges, so that it can be written

@@ -82,7 +82,7 @@ kind_of (instr.JumpNonZero n) = kind.JumpNonZero
 kind_of instr.Turn = kind.Turn
 kind_of instr.End = kind.End
 
--- whether an instruction is of a kind
+-- true exactly if an instruction is of a kind
 abbrev pub is_kind : InstrKind → Instr → Bool
 is_kind k i = instr_number (kind_of i) == instr_number k
 

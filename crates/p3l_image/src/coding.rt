@@ -14,7 +14,7 @@ use crate::image::{Image, ImageRefusal};
 use crate::net::NetField;
 use p3l_base::limits::MOST_TOKENS;
 use p3l_base::{List, NoMemory};
-use p3l_format::{Cause, Fault, Field, ReadError, read_exact, read_u32_in, write_u32};
+use p3l_format::{Cause, Field, FieldFault, ReadError, read_exact, read_u32_in, write_u32};
 use p3l_skel::Counts;
 use p3l_tree_format::{COUNTS, TreeField, Version, read_version, write_version};
 use std::alloc::Global;
@@ -149,7 +149,7 @@ pub fn decode(alloc: Global, bytes: &[u8]) -> Result<Image, ImageRefusal>
 }
 
 // The refusal of bytes with this first fault.
-fn refusal(bytes: &[u8], fault: Fault) -> ImageRefusal
+fn refusal(bytes: &[u8], fault: FieldFault) -> ImageRefusal
     ensures { result ≡ refusal_of bytes.now fault }
 {
     let place = bytes.len().saturating_sub(fault.left) as u64;

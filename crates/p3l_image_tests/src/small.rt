@@ -8,7 +8,7 @@ use p3l_skel::ModuleKind;
 use std::alloc::Global;
 use std::test::Fail;
 
-/// How many fields the image has.
+/// The number of fields of the image.
 pub const COUNT: usize = 58;
 
 /// The fields of the image of a `seq` module `main` that makes `x * 2 + 1` of a word `x`.

@@ -1,4 +1,4 @@
--- How calls on objects in memory are counted, and which of them fail.
+-- Counts of calls on objects in memory, and the calls that fail.
 use Rattle.std.specs.Prelude.{ℕ, ◌+◌, ◌-◌, ◌^◌, min, List, Bool, ◌&&◌, ◌==◌, nat_lt}
 use Rattle.std.specs.List.{list_any}
 

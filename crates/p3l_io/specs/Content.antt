@@ -1,5 +1,6 @@
 -- The effect of calls on the outside on what is known of it. All else stays unknown.
 use Rattle.std.specs.Prelude.{◌≡◌, ◌≢◌, ℕ, ◌<◌, ◌≤◌, List, [], ◌++◌, length, take, drop, Option, Some, None, Result, Ok, Err}
+use Rattle.p3l_io.specs.Change.{Change, HasBecome}
 use Rattle.p3l_io.specs.declared.fault.Failed.{Failed}
 use Rattle.p3l_io.specs.declared.fault.FileFault.{FileFault}
 use Rattle.p3l_io.specs.declared.fault.FileFault.TheVariants as file
@@ -13,16 +14,20 @@ pub record Took (rest : List ℕ) (new : Option (List ℕ)) (n : ℕ) (buf : Lis
   pub ended : n ≡ 0 → rest ≡ []
 
 -- a source loses what it gave, and by a fault nothing
-abbrev pub Takes : Option (List ℕ) → Option (List ℕ) → Result ℕ Failed → List ℕ → Type 0
-Takes None new result buf = new ≡ None
-Takes (Some rest) new (Ok n) buf = Took rest new n buf
-Takes (Some rest) new (Err e) buf = new ≡ Some rest
+abbrev pub TakesOf : Result ℕ Failed → (buf rest : List ℕ) → Option (List ℕ) → Type 0
+TakesOf (Ok n) buf rest new = Took rest new n buf
+TakesOf (Err e) buf rest new = new ≡ Some rest
+
+abbrev pub Takes : (source : Change (List ℕ)) → Result ℕ Failed → (buf : List ℕ) → Type 0
+Takes source result buf = HasBecome source (TakesOf result buf)
 
 -- a sink gains the whole piece, or by a fault a prefix of it
-abbrev pub Puts : Option (List ℕ) → Option (List ℕ) → Result (Unit {0}) Failed → List ℕ → Type 0
-Puts None new result piece = new ≡ None
-Puts (Some taken) new (Ok done) piece = new ≡ Some (taken ++ piece)
-Puts (Some taken) new (Err e) piece = (n : ℕ) × (new ≡ Some (taken ++ take n piece))
+abbrev pub PutsOf : Result (Unit {0}) Failed → (piece taken : List ℕ) → Option (List ℕ) → Type 0
+PutsOf (Ok done) piece taken new = new ≡ Some (taken ++ piece)
+PutsOf (Err e) piece taken new = (n : ℕ) × (new ≡ Some (taken ++ take n piece))
+
+abbrev pub Puts : (sink : Change (List ℕ)) → Result (Unit {0}) Failed → (piece : List ℕ) → Type 0
+Puts sink result piece = HasBecome sink (PutsOf result piece)
 
 -- the bytes under each name that has some
 abbrev pub Held : Type 0
@@ -36,9 +41,8 @@ ReadsFile found limit (Err file.Failed) = Unit {0}
 ReadsFile found limit (Err file.NoMemory) = Unit {0}
 
 -- a reading changes no file
-abbrev pub Reads : Option Held → Option Held → List ℕ → ℕ → Result (List ℕ) FileFault → Type 0
-Reads None new name limit result = new ≡ None
-Reads (Some held) new name limit result = (new ≡ Some held) × ReadsFile (held name) limit result
+abbrev pub Reads : (files : Change Held) → (name : List ℕ) → (limit : ℕ) → Result (List ℕ) FileFault → Type 0
+Reads files name limit result = HasBecome files (λ held new. (new ≡ Some held) × ReadsFile (held name) limit result)
 
 -- each other name has what it had
 abbrev pub KeepsOthers : Held → Held → List ℕ → Type 0
@@ -49,8 +53,10 @@ abbrev pub IsPut : Held → Held → List ℕ → List ℕ → Type 0
 IsPut old new name bytes = (new name ≡ Some bytes) × KeepsOthers old new name
 
 -- a writing puts the bytes under the name, and touches no other
-abbrev pub Writes : Option Held → Option Held → List ℕ → List ℕ → Result (Unit {0}) WriteFault → Type 0
-Writes None new name bytes result = new ≡ None
-Writes (Some old) None name bytes result = ⊥
-Writes (Some old) (Some new) name bytes (Ok done) = IsPut old new name bytes
-Writes (Some old) (Some new) name bytes (Err e) = KeepsOthers old new name
+abbrev pub WritesOf : (name bytes : List ℕ) → Result (Unit {0}) WriteFault → Held → Option Held → Type 0
+WritesOf name bytes result old None = ⊥
+WritesOf name bytes (Ok done) old (Some new) = IsPut old new name bytes
+WritesOf name bytes (Err e) old (Some new) = KeepsOthers old new name
+
+abbrev pub Writes : (files : Change Held) → (name bytes : List ℕ) → Result (Unit {0}) WriteFault → Type 0
+Writes files name bytes result = HasBecome files (WritesOf name bytes result)

@@ -9,6 +9,7 @@ use Rattle.p3l_io.specs.declared.fault.WriteFault.{WriteFault}
 use Rattle.p3l_io.specs.declared.fault.WriteFault.TheVariants as write
 use Rattle.p3l_base.specs.Memory.{Refused}
 use Rattle.p3l_io.specs.Calls.{next_count, names_call}
+use Rattle.p3l_io.specs.Change.{Observation}
 use Rattle.p3l_io.specs.Content.{Held, IsPut}
 
 -- the names with their bytes, the calls that fail, how many calls and faults there were, and the name of the file of the latest fault
@@ -22,6 +23,10 @@ pub record FilesState : Type 0 where
 -- the bytes under a name
 abbrev pub bytes_under : List (List ℕ × List ℕ) → Held
 bytes_under files name = lookup (λ other. bytes_eq name other) files
+
+-- the files as they are observed
+abbrev pub observation : FilesState → Observation Held
+observation s = record { content = Some (bytes_under s.files); faults = s.faults; failed = s.failed }
 
 -- the next call fails by its number
 abbrev pub fails_next : FilesState → Bool
@@ -65,7 +70,7 @@ pub record IsCalled (old new : FilesState) (name : List ℕ) (failed : Bool) : T
   pub faults : new.faults ≡ (if failed then next_count old.faults else old.faults)
   pub blames : new.failed ≡ (if failed then Some name else old.failed)
 
--- what a reading answers of the bytes found: a copy within the limit, or why there is none
+-- the answer of a reading that finds these bytes: a copy within the limit, or why there is none
 abbrev pub IsCopy : Option (List ℕ) → ℕ → Result (List ℕ) FileFault → Type 0
 IsCopy found limit (Ok bytes) = (found ≡ Some bytes) × (length bytes ≤ limit)
 IsCopy found limit (Err file.Failed) = found ≡ None

@@ -2,6 +2,7 @@
 use Rattle.std.specs.Prelude.{ℕ, ◌-◌, ◌^◌, min, Bool, ◌&&◌, ◌||◌, ◌==◌, nat_lt, List, ◌++◌, length, take, Option, Some, None, is_some, find, if◌then◌else◌}
 use Rattle.p3l_io.specs.declared.mem_sink.PutFail.{PutFail}
 use Rattle.p3l_io.specs.Calls.{next_count}
+use Rattle.p3l_io.specs.Change.{Observation, stream}
 
 -- the bytes that were put, the room for more, the calls that fail, and how many calls and faults there were
 pub record SinkState : Type 0 where
@@ -10,6 +11,10 @@ pub record SinkState : Type 0 where
   pub fails : List PutFail
   pub calls : ℕ
   pub faults : ℕ
+
+-- the sink as it is observed
+abbrev pub observation : SinkState → Observation (List ℕ)
+observation s = stream (Some s.taken) s.faults
 
 -- the first entry of a call; none is named by the number at which the count stays
 abbrev pub entry_of : List PutFail → ℕ → Option PutFail
@@ -23,7 +28,7 @@ next_entry s = entry_of s.fails (next_count s.calls)
 abbrev pub fails_at : SinkState → List ℕ → Bool
 fails_at s piece = is_some (next_entry s) || nat_lt s.left (length piece)
 
--- how many bytes of a piece of this length are put, at this entry of the call, where so much room is left
+-- the count of bytes put of a piece of this length, by this entry of the call and the room left
 abbrev pub put_count : Option PutFail → ℕ → ℕ → ℕ
 put_count None size left = min size left
 put_count (Some entry) size left = min entry.prefix (min size left)

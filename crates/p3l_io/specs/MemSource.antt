@@ -1,7 +1,8 @@
 -- A source in memory.
-use Rattle.std.specs.Prelude.{ℕ, min, Bool, List, length, drop, Result, Ok, Err}
+use Rattle.std.specs.Prelude.{ℕ, min, Bool, List, length, drop, Some, Result, Ok, Err}
 use Rattle.p3l_io.specs.declared.fault.Failed.{Failed}
 use Rattle.p3l_io.specs.Calls.{next_count, names_call}
+use Rattle.p3l_io.specs.Change.{Observation, stream}
 
 -- the bytes that are left, the most that a call gives, the calls that fail, and how many calls and faults there were
 pub record SourceState : Type 0 where
@@ -11,11 +12,15 @@ pub record SourceState : Type 0 where
   pub calls : ℕ
   pub faults : ℕ
 
+-- the source as it is observed
+abbrev pub observation : SourceState → Observation (List ℕ)
+observation s = stream (Some s.rest) s.faults
+
 -- the next call fails
 abbrev pub fails_next : SourceState → Bool
 fails_next s = names_call s.fails (next_count s.calls)
 
--- how many bytes a call gives into so much room
+-- the count of bytes that a call gives into so much room
 abbrev pub given : SourceState → ℕ → ℕ
 given s room = min (min (length s.rest) room) s.piece
 

@@ -1,4 +1,4 @@
-// How calls on objects in memory are counted, and which of them fail.
+// Counts of calls on objects in memory, and the calls that fail.
 
 ghost use Rattle.std.specs.Prelude.{◌≡◌};
 ghost use Rattle.p3l_io.specs.Calls.{names_call, next_count};

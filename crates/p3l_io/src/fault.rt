@@ -1,4 +1,4 @@
-// How calls on the outside fail.
+// Failures of calls on the outside.
 
 /// A taking or a putting of bytes failed.
 #[derive(Clone, Copy, Debug, Drop, PartialEq, Eq)]

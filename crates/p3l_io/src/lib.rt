@@ -1,4 +1,4 @@
-//! What the program is handed: a source and sinks of bytes, and files, each with a count of its
+//! The objects of the outside: a source and sinks of bytes, and files, each with a count of its
 //! faults.
 #![tactic(auto)]
 

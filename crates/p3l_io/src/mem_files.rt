@@ -4,9 +4,10 @@ ghost use Rattle.std.specs.Prelude.{◌≡◌, ◌≤◌, [], Some, None, false,
 ghost use Rattle.p3l_base.specs.Memory.{OnGiven, Refused};
 ghost use Rattle.std.specs.Option.{option_copied};
 ghost use Rattle.p3l_io.specs.Causes.{HasReadCause, HasWriteCause, ReadBlames, ReadWants, WriteBlames, WriteWants};
+ghost use Rattle.p3l_io.specs.Change.{change};
 ghost use Rattle.p3l_io.specs.Content.{IsPut, Reads, Writes};
 ghost use Rattle.p3l_io.specs.Calls.{next_count};
-ghost use Rattle.p3l_io.specs.MemFiles.{IsAdded, IsCalled, IsCopy, ReadFailsIf, WriteFailsIf, after_call, bytes_under, fails_next, read_failed, texts, write_failed};
+ghost use Rattle.p3l_io.specs.MemFiles.{IsAdded, IsCalled, IsCopy, ReadFailsIf, WriteFailsIf, after_call, bytes_under, fails_next, observation, read_failed, texts, write_failed};
 
 use crate::calls::{after_one_more, is_named};
 use crate::fault::{FileFault, WriteFault};
@@ -133,20 +134,17 @@ fn copy_within(alloc: Global, found: Option<&[u8]>, limit: u64) -> Result<List<u
 }
 
 impl Files for MemFiles {
-    ghost held = { λ s. Some (bytes_under s.files) };
-
-    ghost faults = { λ s. s.faults };
-
-    ghost failed = { λ s. s.failed };
+    ghost observed = { observation };
 
     ghost may_want = { false };
 
     fn read(&mut self, alloc: Global, name: &str, limit: u64) -> Result<List<u8>, FileFault>
         ensures within { IfOk result (λ bytes. length bytes ≤ limit) }
-        ensures bytes { Reads (Some (bytes_under self.old.files))
-            (Some (bytes_under self.new.files)) name.now limit result }
-        ensures cause { HasReadCause self.old.faults self.new.faults result }
-        ensures blames { ReadBlames self.old.failed self.new.failed name.now result }
+        ensures bytes { Reads
+            (change (observation self.old) (observation self.new)) name.now limit result }
+        ensures cause { HasReadCause (change (observation self.old) (observation self.new)) result }
+        ensures blames { ReadBlames
+            (change (observation self.old) (observation self.new)) name.now result }
         ensures wants { ReadWants false result }
         ensures failed { ReadFailsIf
             (fails_next self.old || is_none (bytes_under self.old.files name.now)) result }
@@ -170,10 +168,12 @@ impl Files for MemFiles {
     }
 
     fn write(&mut self, alloc: Global, name: &str, bytes: &[u8]) -> Result<(), WriteFault>
-        ensures bytes { Writes (Some (bytes_under self.old.files))
-            (Some (bytes_under self.new.files)) name.now bytes.now result }
-        ensures cause { HasWriteCause self.old.faults self.new.faults result }
-        ensures blames { WriteBlames self.old.failed self.new.failed name.now result }
+        ensures bytes { Writes
+            (change (observation self.old) (observation self.new)) name.now bytes.now result }
+        ensures cause { HasWriteCause
+            (change (observation self.old) (observation self.new)) result }
+        ensures blames { WriteBlames
+            (change (observation self.old) (observation self.new)) name.now result }
         ensures wants { WriteWants false result }
         ensures failed { WriteFailsIf (fails_next self.old) result }
         ensures after { IsCalled self.old self.new name.now (write_failed result) }

@@ -1,10 +1,11 @@
 // A sink in memory.
 
-ghost use Rattle.std.specs.Prelude.{◌≡◌, ◌-◌, ◌≤◌, [], ◌++◌, Some, length, is_err};
+ghost use Rattle.std.specs.Prelude.{◌≡◌, ◌-◌, ◌≤◌, [], ◌++◌, length, is_err};
 ghost use Rattle.p3l_base.specs.Memory.{IfGiven};
 ghost use Rattle.p3l_io.specs.Causes.{HasCause};
+ghost use Rattle.p3l_io.specs.Change.{change};
 ghost use Rattle.p3l_io.specs.Content.{Puts};
-ghost use Rattle.p3l_io.specs.MemSink.{after_put, entry_of, fails_at};
+ghost use Rattle.p3l_io.specs.MemSink.{after_put, entry_of, fails_at, observation};
 
 use crate::calls::after_one_more;
 use crate::fault::Failed;
@@ -92,13 +93,12 @@ impl MemSink {
 }
 
 impl Sink for MemSink {
-    ghost taken = { λ s. Some s.taken };
-
-    ghost faults = { λ s. s.faults };
+    ghost observed = { observation };
 
     fn put(&mut self, piece: &[u8]) -> Result<(), Failed>
-        ensures bytes { Puts (Some self.old.taken) (Some self.new.taken) result piece.now }
-        ensures cause { HasCause self.old.faults self.new.faults result }
+        ensures bytes { Puts
+            (change (observation self.old) (observation self.new)) result piece.now }
+        ensures cause { HasCause (change (observation self.old) (observation self.new)) result }
         ensures failed { is_err result ≡ fails_at self.old piece.now }
         ensures after { self.new ≡ after_put self.old piece.now (is_err result) }
     {

@@ -1,9 +1,10 @@
 // A source in memory.
 
-ghost use Rattle.std.specs.Prelude.{◌≡◌, ◌<◌, ◌≤◌, Some, drop, length, is_err, IfOk};
+ghost use Rattle.std.specs.Prelude.{◌≡◌, ◌<◌, ◌≤◌, drop, length, is_err, IfOk};
 ghost use Rattle.p3l_io.specs.Causes.{HasCause};
+ghost use Rattle.p3l_io.specs.Change.{change};
 ghost use Rattle.p3l_io.specs.Content.{Takes};
-ghost use Rattle.p3l_io.specs.MemSource.{after_take, fails_next, given};
+ghost use Rattle.p3l_io.specs.MemSource.{after_take, fails_next, given, observation};
 
 use crate::calls::{after_one_more, is_named};
 use crate::fault::Failed;
@@ -60,15 +61,14 @@ impl MemSource {
 }
 
 impl Source for MemSource {
-    ghost rest = { λ s. Some s.rest };
-
-    ghost faults = { λ s. s.faults };
+    ghost observed = { observation };
 
     fn take(&mut self, buf: &mut [u8]) -> Result<usize, Failed>
         requires { 0 < length buf.old }
         ensures bound { IfOk result (λ n. n ≤ length buf.new) }
-        ensures bytes { Takes (Some self.old.rest) (Some self.new.rest) result buf.new }
-        ensures cause { HasCause self.old.faults self.new.faults result }
+        ensures bytes { Takes
+            (change (observation self.old) (observation self.new)) result buf.new }
+        ensures cause { HasCause (change (observation self.old) (observation self.new)) result }
         ensures failed { is_err result ≡ fails_next self.old }
         ensures count { IfOk result (λ n. n ≡ given self.old (length buf.new)) }
         ensures after { self.new ≡ after_take self.old result }

@@ -6,7 +6,7 @@ use p3l_base::{List, Name, NoMemory, TrapKind, Words};
 use std::alloc::Global;
 use std::test::*;
 
-/// What a body comes to: its `s` and how many turns its loops began, or the trap.
+/// The end of a body: its `s` and the number of turns that its loops began, or the trap.
 type End = Result<(i64, u32), TrapKind>;
 
 /// Makes statements and the valuations that they start in.

@@ -5,7 +5,7 @@ ghost use Rattle.p3l_calls.specs.Port.{AreSized};
 
 use p3l_ast::{Call, Entry, Fault, Inside, Kind, Module, Program, SourceRefusal};
 use p3l_base::{List, Name};
-use p3l_body::{Ports, Scope, Var, ports_of};
+use p3l_body::{Ports, Var, Variables, ports_of};
 use p3l_calls::{check_condition, check_plain_call, check_stage, cut_of, elements_of};
 use p3l_reader::read;
 use p3l_types::Consts;
@@ -13,7 +13,7 @@ use std::alloc::{AllocError, Global};
 use std::process::Abort;
 use std::test::Fail;
 
-/// What the callers stand after.
+/// The text before the callers.
 const HEAD: &str = "const N = 3; \
 seq one in(int x) out(int y) ${ y = x; }$ end seq \
 seq two in(int x, int y) out(int z) ${ z = x + y; }$ end seq \
@@ -138,7 +138,7 @@ const REDUCES: &str = "0 | reduce m in(int a[5]) out(int s) two in(a[*i]) out(s)
 27 | reduce m in(int a[5]) out(int s[3]) ^two in(a[*i]) out(s) end reduce
 27 | reduce m in(int a[5][2]) out(int s[2]) ^dot in(a[*i][]) out(s) end reduce";
 
-/// What calls are checked in: a program, and the constants that stand before.
+/// The context in which calls are checked: a program, and the constants that stand before.
 #[derive(Clone, Copy)]
 struct Context<'p> {
     alloc: Global,
@@ -148,7 +148,7 @@ struct Context<'p> {
 
 impl<'p> Context<'p> {
     /// The ports of a module, whose names then stand in the empty scope.
-    fn ports(&self, scope: &mut Scope, module: &Module) -> Result<Ports, SourceRefusal>
+    fn ports(&self, scope: &mut Variables, module: &Module) -> Result<Ports, SourceRefusal>
         requires { scope.old ≡ [] }
         ensures ins { IfOk result (λ ports. AreSized ports.ins) }
         ensures outs { IfOk result (λ ports. AreSized ports.outs) }
@@ -162,7 +162,7 @@ impl<'p> Context<'p> {
         for entry in self.program.entries.as_slice() {
             if let Entry::Module(module) = entry {
                 if module.at.name == *name {
-                    return self.ports(&mut Scope::new(self.alloc), module);
+                    return self.ports(&mut Variables::new(self.alloc), module);
                 }
             }
         }
@@ -181,7 +181,7 @@ impl<'p> Context<'p> {
     /// A call of a chain that another follows; gives what that one takes.
     fn check_next(
         &self,
-        scope: &mut Scope,
+        scope: &mut Variables,
         taken: &[Var],
         call: &Call,
     ) -> Result<List<Var>, SourceRefusal> {
@@ -192,7 +192,7 @@ impl<'p> Context<'p> {
     /// The calls of a chain before the last one; gives what that one takes.
     fn check_stages(
         &self,
-        scope: &mut Scope,
+        scope: &mut Variables,
         ins: List<Var>,
         calls: &[Call],
     ) -> Result<List<Var>, SourceRefusal> {
@@ -210,7 +210,7 @@ impl<'p> Context<'p> {
         stages: &[Call],
         last: &Call,
     ) -> Result<(), SourceRefusal> {
-        let mut scope = Scope::new(self.alloc);
+        let mut scope = Variables::new(self.alloc);
         let Ports { ins, outs } = self.ports(&mut scope, module)?;
         let taken = self.check_stages(&mut scope, ins, stages)?;
         self.check_plain(taken.as_slice(), outs.as_slice(), last)
@@ -219,7 +219,7 @@ impl<'p> Context<'p> {
     /// The condition of a loop that gives these variables.
     fn check_test(
         &self,
-        scope: &Scope,
+        scope: &Variables,
         loop_outs: &[Var],
         call: &Call,
     ) -> Result<(), SourceRefusal> {
@@ -234,7 +234,7 @@ impl<'p> Context<'p> {
         body: &Call,
         condition: &Call,
     ) -> Result<(), SourceRefusal> {
-        let mut scope = Scope::new(self.alloc);
+        let mut scope = Variables::new(self.alloc);
         let Ports { ins, outs } = self.ports(&mut scope, module)?;
         self.check_plain(ins.as_slice(), outs.as_slice(), body)?;
         self.check_test(&scope, outs.as_slice(), condition)
@@ -266,7 +266,7 @@ impl<'p> Context<'p> {
 
     /// The one call of a farm, a map or a reduce.
     fn check_one(&self, module: &Module, call: &Call) -> Result<(), SourceRefusal> {
-        let ports = self.ports(&mut Scope::new(self.alloc), module)?;
+        let ports = self.ports(&mut Variables::new(self.alloc), module)?;
         let callee = self.callee(&call.at.name)?;
         self.check_only(module, &ports, &callee, call)
     }

@@ -107,7 +107,7 @@ const BODIES: &str = "0 | ${ y = x; b[x] = a[0][x]; }$
 43 2:4 | ${ b[0][z] = 1; }$
 43 2:6 | ${ b[b] = 1; }$";
 
-/// What a body stands after.
+/// The text before a body.
 const HEAD: &str = "const K = 3; seq main in(int x, int a[2][3]) out(int y, int b[4])";
 
 /// A program must have this fault.

@@ -1,7 +1,7 @@
 // Texts and their tokens, with expected positions counted by hand.
 
 use p3l_ast::{BinOp, Fault, Pos};
-use p3l_lexer::{Lexeme, Mark, Token, end_of, tokens};
+use p3l_lexer::{Lexeme, Mark, TextToken, end_of, tokens};
 use std::alloc::Global;
 use std::process::Abort;
 use std::test::Fail;
@@ -16,7 +16,7 @@ enum Wanted<'a> {
 }
 
 /// Returns true exactly if a token is the wanted one.
-fn is_wanted(token: &Token, wanted: &Wanted<'_>) -> bool {
+fn is_wanted(token: &TextToken, wanted: &Wanted<'_>) -> bool {
     match (&token.lexeme, wanted) {
         (Lexeme::Word(name), Wanted::Name(text, line, col)) => {
             name.as_str() == *text && stands_at(token.at, *line, *col)

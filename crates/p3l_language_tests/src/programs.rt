@@ -20,7 +20,7 @@ fn refused(alloc: Global, refusal: SourceRefusal) -> Result<String, AllocError> 
     }
 }
 
-/// How many modules and instances a program has, or its first fault.
+/// Returns the numbers of modules and instances of a program, or its first fault, as a text.
 fn resolved(alloc: Global, program: &Program) -> Result<String, AllocError> {
     match resolve(alloc, program) {
         Ok(resolved) => {
@@ -32,7 +32,7 @@ fn resolved(alloc: Global, program: &Program) -> Result<String, AllocError> {
     }
 }
 
-/// How many modules and instances the program of a text has, or its first fault.
+/// Returns the numbers of modules and instances of the program in a text, or its first fault.
 fn answer(alloc: Global, text: &str) -> Result<String, AllocError> {
     match read(alloc, text.as_bytes()) {
         Ok(program) => resolved(alloc, &program),

@@ -1,4 +1,4 @@
--- What the code finds a piece to be.
+-- Kinds of pieces, case by case as the code finds them.
 use Rattle.std.proofs.Common.{◌≡◌, ◌≢◌, ℕ, ◌<◌, Bool, true, false, cond, List, [], ◌∷◌, length, drop, get_or, Option, Some, None, refl, ◌∙◌, subst, arith}
 use Rattle.std.specs.Prelude.{nat_eq, IsSome}
 use Rattle.std.specs.List.{list_all}

@@ -73,7 +73,7 @@ closed_cut front rest h = record {
       piece_of-slash (42 ∷ front ++ byte ∷ more) ∙ slash_of-block (front ++ byte ∷ more) ∙ ap block_of (after_close-append front [] (byte ∷ more) h);
 }
 
--- what follows the first `*/` is shorter than the body
+-- the rest after the first `*/` is shorter than the body
 close_shorter : (body rest : List ℕ) → after_close body ≡ Some rest → length rest < length body
 unfolding after_close
 close_shorter [] rest h = absurd cc
@@ -96,7 +96,7 @@ close_here a b body (x ∷ y ∷ []) rest t q w =
     rw k refl
 close_here a b body (x ∷ y ∷ z ∷ front) rest t q w = absurd (let e : length (a ∷ b ∷ body) ≡ 3 + (length front + length rest) = ap length w ∙ ap (λ n. suc (suc (suc n))) (length-append front rest) ∙ (omega arith) in let f = ap length q in omega arith)
 
--- whatever comes before the rest ends by the first `*/`
+-- the text before the rest ends with the first `*/`
 abbrev Closes : List ℕ → List ℕ → Type 0
 Closes body rest = (front : List ℕ) → after_close body ≡ Some rest → body ≡ front ++ rest → after_close front ≡ Some []
 

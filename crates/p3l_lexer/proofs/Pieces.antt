@@ -1,4 +1,4 @@
--- What texts are as wholes.
+-- Kinds of texts, each taken whole as one piece.
 use Rattle.std.proofs.Common.{◌≡◌, ℕ, ◌+◌, ◌≤◌, Bool, true, false, cond, ◌&&◌, List, [], ◌∷◌, ◌++◌, length, Option, Some, None, refl, ap, arith}
 use Rattle.std.specs.Prelude.{nat_eq, nat_le, bytes_eq, is_some}
 use Rattle.std.specs.List.{list_all}
@@ -96,7 +96,7 @@ pub run_ends : (test : ℕ → Bool) (front more : List ℕ) (byte : ℕ) → te
 run_ends test [] more byte h = rw h refl
 run_ends test (b ∷ front) more byte h = and_false (test b) _ (run_ends test front more byte h)
 
--- what follows the first `*/` may go on
+-- text appended to a body is appended to the rest after the first `*/`
 pub after_close-append : (body rest more : List ℕ) → after_close body ≡ Some rest → after_close (body ++ more) ≡ Some (rest ++ more)
 unfolding after_close
 after_close-append [] rest more h = absurd cc

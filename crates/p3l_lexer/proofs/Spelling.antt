@@ -13,7 +13,7 @@ use Rattle.p3l_lexer.specs.declared.token.Lexeme.{Lexeme}
 use Rattle.p3l_lexer.specs.declared.token.Lexeme.TheVariants as lexemes
 use Rattle.p3l_lexer.specs.declared.token.Piece.{Piece}
 use Rattle.p3l_lexer.specs.declared.token.Piece.TheVariants as pieces
-use Rattle.p3l_lexer.specs.declared.token.Token.{Token}
+use Rattle.p3l_lexer.specs.declared.token.TextToken.{TextToken}
 use Rattle.p3l_lexer.specs.Mark.{mark_text, keyword_of, punctuation_of}
 use Rattle.p3l_lexer.specs.Piece.{is_blank, is_word_byte, word_or_keyword, sign_or_byte, after_close, block_of, slash_of, piece_of}
 use Rattle.p3l_lexer.specs.Position.{is_no_line_end, position_after}
@@ -156,12 +156,12 @@ lexemes_of_tokens before (chunk ∷ chunks) = go chunk.piece (lexemes_of_tokens 
     go pieces.Gap e = e
     go (pieces.Token lexeme) e = ap (λ x. lexeme ∷ x) e
 
-pub tokens_have : (bytes : List ℕ) (tokens : List Token) (lexemes : List Lexeme) → IsTokens bytes tokens → HasLexemes bytes lexemes → map (λ t. t.lexeme) tokens ≡ lexemes
+pub tokens_have : (bytes : List ℕ) (tokens : List TextToken) (lexemes : List Lexeme) → IsTokens bytes tokens → HasLexemes bytes lexemes → map (λ t. t.lexeme) tokens ≡ lexemes
 tokens_have bytes tokens lexemes p q =
     ap (map (λ t. t.lexeme)) p.tokens_are ∙ lexemes_of_tokens [] p.chunks ∙ ap lexemes_in (chunks_same bytes p.chunks q.chunks p.cut q.cut) ∙ sym q.lexemes_are
 
 -- with positions put in, what a text is written with are its tokens
-pub tokens_of : (bytes : List ℕ) (lexemes : List Lexeme) → HasLexemes bytes lexemes → (tokens : List Token) × IsTokens bytes tokens × (map (λ t. t.lexeme) tokens ≡ lexemes)
+pub tokens_of : (bytes : List ℕ) (lexemes : List Lexeme) → HasLexemes bytes lexemes → (tokens : List TextToken) × IsTokens bytes tokens × (map (λ t. t.lexeme) tokens ≡ lexemes)
 tokens_of bytes lexemes h = (
   tokens_after [] h.chunks,
   record { chunks = h.chunks; cut = h.cut; tokens_are = refl },

@@ -1,7 +1,7 @@
 -- A text has its tokens in one way.
 use Rattle.std.proofs.Common.{◌≡◌, ℕ, ◌<◌, List, [], ◌∷◌, ◌++◌, length, Some, None, refl, sym, ap, ◌∙◌, subst, arith}
 use Rattle.p3l_lexer.specs.declared.token.Piece.{Piece}
-use Rattle.p3l_lexer.specs.declared.token.Token.{Token}
+use Rattle.p3l_lexer.specs.declared.token.TextToken.{TextToken}
 use Rattle.p3l_lexer.specs.Piece.{piece_of}
 use Rattle.p3l_lexer.specs.Token.{IsCut, Chunk, IsCutInto, tokens_after, IsTokens}
 use Rattle.p3l_lexer.proofs.Lexing.{not_empty}
@@ -53,6 +53,6 @@ chunks_same bytes (c ∷ a) (d ∷ b) p q =
     cc
 
 -- the tokens of a text are these and no others
-pub tokens_same : (bytes : List ℕ) (a b : List Token) → IsTokens bytes a → IsTokens bytes b → a ≡ b
+pub tokens_same : (bytes : List ℕ) (a b : List TextToken) → IsTokens bytes a → IsTokens bytes b → a ≡ b
 tokens_same bytes a b p q =
     p.tokens_are ∙ ap (tokens_after []) (chunks_same bytes p.chunks q.chunks p.cut q.cut) ∙ sym q.tokens_are

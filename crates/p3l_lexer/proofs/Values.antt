@@ -7,7 +7,7 @@ use Rattle.std.proofs.lemmas.List.Sums.{fold-append, fold_more}
 use Rattle.p3l_lexer.specs.Piece.{is_digit, value_of}
 use Rattle.p3l_lexer.proofs.Truths.{and_left, and_right}
 
--- what all bytes are, each is
+-- each byte passes a test that all bytes pass
 pub all_at : (test : ℕ → Bool) (bytes : List ℕ) (i : ℕ) → list_all test bytes ≡ true → i < length bytes → test (get_or bytes i 0) ≡ true
 all_at test [] i h k = absurd (omega arith)
 all_at test (b ∷ bytes) zero h k = and_left (test b) _ h

@@ -28,7 +28,7 @@ is_word_byte byte = is_letter byte || is_digit byte
 abbrev pub value_of : List ℕ → ℕ
 value_of digits = fold (λ value digit. value * 10 + (digit - 48)) 0 digits
 
--- one digit, or more of which the first is no 0
+-- one digit, or several digits that do not begin with 0
 abbrev pub is_number : List ℕ → Bool
 is_number text = list_all is_digit text && (nat_eq (length text) 1 || not (nat_eq (slice_index text 0) 48))
 

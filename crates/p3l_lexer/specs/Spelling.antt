@@ -1,4 +1,4 @@
--- Which tokens a text is written with, wherever they are.
+-- The tokens of a text in order, without their positions.
 use Rattle.std.specs.Prelude.{◌≡◌, ℕ, Bool, ◌&&◌, ◌||◌, List, [], ◌∷◌, ◌++◌, is_some, nat_eq, bytes_eq, slice_index, if◌then◌else◌}
 use Rattle.p3l_lexer.specs.declared.token.Lexeme.{Lexeme}
 use Rattle.p3l_lexer.specs.declared.token.Lexeme.TheVariants as lexemes

@@ -3,7 +3,7 @@ use Rattle.std.specs.Prelude.{◌≡◌, ℕ, List, [], ◌∷◌, ◌++◌, Som
 use Rattle.p3l_ast.specs.declared.position.Pos.{Pos}
 use Rattle.p3l_lexer.specs.declared.token.Piece.{Piece}
 use Rattle.p3l_lexer.specs.declared.token.Piece.TheVariants as pieces
-use Rattle.p3l_lexer.specs.declared.token.Token.{Token}
+use Rattle.p3l_lexer.specs.declared.token.TextToken.{TextToken}
 use Rattle.p3l_lexer.specs.Piece.{piece_of}
 use Rattle.p3l_lexer.specs.Position.{position_after}
 
@@ -27,17 +27,17 @@ IsCutInto bytes [] = bytes ≡ []
 IsCutInto bytes (chunk ∷ chunks) = (rest : List ℕ) × (bytes ≡ chunk.text ++ rest) × IsCut chunk.piece chunk.text rest × IsCutInto rest chunks
 
 -- the token that a piece is, if it is one
-abbrev pub token_at : Pos → Piece → List Token
+abbrev pub token_at : Pos → Piece → List TextToken
 token_at at pieces.Gap = []
 token_at at (pieces.Token lexeme) = record { lexeme = lexeme; at = at } ∷ []
 
 -- the tokens among the pieces after some bytes, with their positions
-abbrev pub tokens_after : List ℕ → List Chunk → List Token
+abbrev pub tokens_after : List ℕ → List Chunk → List TextToken
 tokens_after before [] = []
 tokens_after before (chunk ∷ chunks) = token_at (position_after before) chunk.piece ++ tokens_after (before ++ chunk.text) chunks
 
 -- the tokens of the bytes
-pub record IsTokens (bytes : List ℕ) (tokens : List Token) : Type 0 where
+pub record IsTokens (bytes : List ℕ) (tokens : List TextToken) : Type 0 where
   pub chunks : List Chunk
   pub cut : IsCutInto bytes chunks
   pub tokens_are : tokens ≡ tokens_after [] chunks

@@ -13,4 +13,4 @@ pub mod token;
 pub use lexer::tokens;
 pub use mark::Mark;
 pub use position::end_of;
-pub use token::{Lexeme, Piece, Token};
+pub use token::{Lexeme, Piece, TextToken};

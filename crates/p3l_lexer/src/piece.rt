@@ -51,7 +51,7 @@ fn all_digits(text: &[u8]) -> bool
     text.iter().all(|byte| digit(*byte))
 }
 
-/// True if a text is one digit, or more of which the first is no 0.
+/// True if a text is one digit, or several digits that do not begin with 0.
 fn numeral(text: &[u8]) -> bool
     requires { 0 < length text.now }
     ensures { result ≡ is_number text.now }
@@ -118,7 +118,7 @@ fn sign(text: &[u8]) -> Piece
     }
 }
 
-/// The piece that is a comment from `/*` on, of which this is the rest.
+/// The piece of a comment from `/*` on, given the text after these two bytes.
 fn block(body: &[u8]) -> Piece
     requires { IsSome (block_of (after_close body.now)) }
     ensures { block_of (after_close body.now) ≡ Some result }

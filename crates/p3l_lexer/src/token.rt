@@ -27,7 +27,7 @@ pub enum Piece {
 
 /// A token of a text, with the position of its first byte.
 #[derive(Debug, Drop)]
-pub struct Token {
+pub struct TextToken {
     pub lexeme: Lexeme,
     pub at: Pos,
 }

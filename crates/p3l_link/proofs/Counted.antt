@@ -1,6 +1,6 @@
 -- The nodes of a lawful tree under lawful counts can be placed (`root_counted`), their templates
--- are lawful (`shape_lawful`), and the part at a seat can be placed one level down
--- (`seat_counted`). A template's numbers are in range (`template_fit`).
+-- are lawful (`shape_lawful`), and the part at a slot can be placed one level down
+-- (`slot_counted`). A template's numbers are in range (`template_fit`).
 use Rattle.std.proofs.Common.{◌≡◌, ℕ, zero, suc, ◌+◌, ◌-◌, ◌^◌, ◌<◌, ◌≤◌, List, [], ◌∷◌, ◌++◌, length, get_or, slice_index, refl, sym, ap, ap₂, ◌∙◌, subst, arith}
 use Rattle.std.specs.List.{AllByRecursion, Contains, flat_map}
 use Rattle.std.proofs.lemmas.Nat.{pow_pos}
@@ -19,7 +19,7 @@ use Rattle.p3l_model.proofs.Count.{count_lawful}
 use Rattle.p3l_model.proofs.Members.{Contains-head}
 use Rattle.p3l_firing.specs.Segments.{level_of}
 use Rattle.p3l_template.specs.Placed.{IsLawfulShape}
-use Rattle.p3l_template.specs.Shape.{Base, no_seat, fan_seats}
+use Rattle.p3l_template.specs.Shape.{Base, no_slot, fan_slots}
 use Rattle.p3l_template.specs.laws.PipeTyping.{stages_length, stage_part}
 use Rattle.p3l_reduce.specs.Reduce.{reduce_shape}
 use Rattle.p3l_link.specs.Counts.{HasOwnCount, IsCounted}
@@ -182,8 +182,8 @@ few_parts tree k lawful there =
     let few = parts_few 5 tree (node_at tree k).parts (k + 1) is.0 (step.0 is.1).1 in
     omega (arith, few, ends, lawful.few_nodes)
 
-fan_part : (i o n v : ℕ) → (get_or (fan_seats i o n) v no_seat).part ≡ 0
-unfolding fan_seats no_seat
+fan_part : (i o n v : ℕ) → (get_or (fan_slots i o n) v no_slot).part ≡ 0
+unfolding fan_slots no_slot
 fan_part i o zero v = refl
 fan_part i o (suc n) zero = refl
 fan_part i o (suc n) (suc v) = fan_part (suc i) (suc o) n v
@@ -193,46 +193,46 @@ all_at P [] v h l = absurd (omega arith)
 all_at P (p ∷ ps) zero h l = h.0
 all_at P (p ∷ ps) (suc v) h l = all_at P ps v h.1 (omega arith)
 
-no_seats : (k len level : ℕ) (base : Base) → (reduce_shape k len level).seats base ≡ []
+no_slots : (k len level : ℕ) (base : Base) → (reduce_shape k len level).slots base ≡ []
 unfolding reduce_shape
-no_seats k len zero base = refl
-no_seats k len (suc d) base = refl
+no_slots k len zero base = refl
+no_slots k len (suc d) base = refl
 
--- the part at a seat is one of those outside units
-row_seat : (tree : Tree) (f : Form) (ins outs : ℕ) (ps : List ℕ) (k n : ℕ) (base : Base) (v : ℕ) →
-    IsLawfulForm tree f ins outs ps → v < length ((shape_row f k (length ps) n).seats base) →
+-- the part at a slot is one of those outside units
+row_slot : (tree : Tree) (f : Form) (ins outs : ℕ) (ps : List ℕ) (k n : ℕ) (base : Base) (v : ℕ) →
+    IsLawfulForm tree f ins outs ps → v < length ((shape_row f k (length ps) n).slots base) →
     (P : ℕ → Type 0) → AllByRecursion P (outside_parts f ps) →
-    P (slice_index ps (get_or ((shape_row f k (length ps) n).seats base) v no_seat).part)
+    P (slice_index ps (get_or ((shape_row f k (length ps) n).slots base) v no_slot).part)
 unfolding kind_row
-row_seat tree Seq ins outs ps k n base v lawful l P all = absurd (omega arith)
-row_seat tree Comp ins outs ps k n base v lawful l P all = absurd (omega arith)
-row_seat tree Pipe ins outs ps k n base v lawful l P all =
+row_slot tree Seq ins outs ps k n base v lawful l P all = absurd (omega arith)
+row_slot tree Comp ins outs ps k n base v lawful l P all = absurd (omega arith)
+row_slot tree Pipe ins outs ps k n base v lawful l P all =
     let j : v < suc (length ps - 1) = omega (arith, l, stages_length 0 base.input base.chan base.output (length ps - 1)) in
-    let is : (get_or ((shape_row Pipe k (length ps) n).seats base) v no_seat).part ≡ v =
+    let is : (get_or ((shape_row Pipe k (length ps) n).slots base) v no_slot).part ≡ v =
     stage_part 0 base.input base.chan base.output (length ps - 1) v j ∙ omega arith in
     subst (λ z. P (slice_index ps z)) (sym is) (all_at P ps v all (omega (arith, j, lawful.0)))
-row_seat tree (Farm w) ins outs [] k n base v lawful l P all = absurd lawful
-row_seat tree (Farm w) ins outs (p ∷ []) k n base v lawful l P all =
+row_slot tree (Farm w) ins outs [] k n base v lawful l P all = absurd lawful
+row_slot tree (Farm w) ins outs (p ∷ []) k n base v lawful l P all =
     subst (λ z. P (slice_index (p ∷ []) z)) (sym (fan_part base.chan (base.chan + n) n v)) all.0
-row_seat tree (Farm w) ins outs (p ∷ (q ∷ ps)) k n base v lawful l P all = absurd lawful
-row_seat tree (Map w cut) ins outs [] k n base v lawful l P all = absurd lawful
-row_seat tree (Map w cut) ins outs (p ∷ []) k n base v lawful l P all =
+row_slot tree (Farm w) ins outs (p ∷ (q ∷ ps)) k n base v lawful l P all = absurd lawful
+row_slot tree (Map w cut) ins outs [] k n base v lawful l P all = absurd lawful
+row_slot tree (Map w cut) ins outs (p ∷ []) k n base v lawful l P all =
     subst (λ z. P (slice_index (p ∷ []) z)) (sym (fan_part base.chan (base.chan + n) n v)) all.0
-row_seat tree (Map w cut) ins outs (p ∷ (q ∷ ps)) k n base v lawful l P all = absurd lawful
-row_seat tree (Reduce w len elem) ins outs ps k n base v lawful l P all =
-    absurd (omega (arith, l, ap length (no_seats k len (level_of n) base)))
-row_seat tree (Loop turns tokens) ins outs [] k n base v lawful l P all = absurd lawful
-row_seat tree (Loop turns tokens) ins outs (b ∷ []) k n base v lawful l P all = absurd lawful
-row_seat tree (Loop turns tokens) ins outs (b ∷ (c ∷ [])) k n base zero lawful l P all = all.0
-row_seat tree (Loop turns tokens) ins outs (b ∷ (c ∷ [])) k n base (suc v) lawful l P all = absurd (omega arith)
-row_seat tree (Loop turns tokens) ins outs (b ∷ (c ∷ (x ∷ ps))) k n base v lawful l P all = absurd lawful
+row_slot tree (Map w cut) ins outs (p ∷ (q ∷ ps)) k n base v lawful l P all = absurd lawful
+row_slot tree (Reduce w len elem) ins outs ps k n base v lawful l P all =
+    absurd (omega (arith, l, ap length (no_slots k len (level_of n) base)))
+row_slot tree (Loop turns tokens) ins outs [] k n base v lawful l P all = absurd lawful
+row_slot tree (Loop turns tokens) ins outs (b ∷ []) k n base v lawful l P all = absurd lawful
+row_slot tree (Loop turns tokens) ins outs (b ∷ (c ∷ [])) k n base zero lawful l P all = all.0
+row_slot tree (Loop turns tokens) ins outs (b ∷ (c ∷ [])) k n base (suc v) lawful l P all = absurd (omega arith)
+row_slot tree (Loop turns tokens) ins outs (b ∷ (c ∷ (x ∷ ps))) k n base v lawful l P all = absurd lawful
 
 module _ (tree : Tree) (count : ℕ → ℕ) (k : ℕ) (lawful : IsLawfulTree tree) (there : k < length tree.nodes) (base : Base)
-    (v : ℕ) (seat : v < length ((shape_at tree count k).seats base)) where
-  pub seat_counted : (d : ℕ) → IsCounted tree count (suc d) k →
-      IsCounted tree count d (part_at tree k (get_or ((shape_at tree count k).seats base) v no_seat).part)
+    (v : ℕ) (slot : v < length ((shape_at tree count k).slots base)) where
+  pub slot_counted : (d : ℕ) → IsCounted tree count (suc d) k →
+      IsCounted tree count d (part_at tree k (get_or ((shape_at tree count k).slots base) v no_slot).part)
   unfolding kind_at IsCounted
-  seat_counted d h =
+  slot_counted d h =
       let node = node_at tree k in
-      row_seat tree node.form node.ins node.outs node.parts k (count k) base v (lawful_at tree lawful k there).form seat
+      row_slot tree node.form node.ins node.outs node.parts k (count k) base v (lawful_at tree lawful k there).form slot
       (IsCounted tree count d) h.2

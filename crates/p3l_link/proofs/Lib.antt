@@ -16,5 +16,5 @@ pub mod RoleLaw
 pub mod ShapeSound
 pub mod Sound
 pub mod Round
-pub mod Carried
+pub mod NetInvariants
 pub mod LinkedLaws

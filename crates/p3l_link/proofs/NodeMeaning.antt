@@ -1,4 +1,4 @@
--- What a node of a lawful tree makes of outcomes, by its form and its parts.
+-- Meanings of the nodes of a lawful tree, as functions of outcomes, by form and parts.
 use Rattle.std.proofs.Common.{◌≡◌, ℕ, ℤ, ◌<◌, List, [], ◌∷◌, length, slice_index, Option, refl, sym, ap, ◌∙◌, subst}
 use Rattle.p3l_base.specs.declared.outcome.Outcome.{Outcome}
 use Rattle.p3l_base.specs.declared.outcome.Outcome.TheVariants.{Value, Trapped}
@@ -34,7 +34,7 @@ module _ (units : Units) (lawful : IsLawfulTree units.tree) (node : ℕ) (inside
       ∙ ap (λ f. item_row (rescued_at units.tree node) units.leaf (node_at units.tree node).module f (node_at units.tree node).parts
       (item units.tree units.leaf) words) is
 
-  -- what it makes of an outcome with its in words has its out words
+  -- the node's outcome for its in words has its out words
   pub outcome-keeps : GivesOuts units.tree units.leaf → (o : Outcome) → HasLength (node_at units.tree node).ins o →
       HasLength (node_at units.tree node).outs (outcome_at units node o)
   outcome-keeps gives (Trapped trap) long = tt

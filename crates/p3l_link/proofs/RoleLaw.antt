@@ -1,4 +1,4 @@
--- What the linker says that a node does is what the node means, and how often it says that it fires is the node's number.
+-- The linker's role of a node has the node's meaning, and its number of firings is the node's number.
 use Rattle.std.proofs.Common.{◌≡◌, ℕ, zero, suc, ◌+◌, ◌-◌, ◌*◌, ◌^◌, ◌<◌, ◌≤◌, Option, if◌then◌else◌, List, [], ◌∷◌, length, take, slice_index, refl, sym, ap, ap₂, ◌∙◌, arith}
 use Rattle.std.specs.Prelude.{sum_by}
 use Rattle.std.specs.List.{AllByRecursion}
@@ -168,7 +168,7 @@ mapped_all P Q [] f all = tt
 mapped_all P Q (p ∷ ps) f all = (f p all.0, mapped_all P Q ps f all.1)
 
 module _ (units : Units) (lawful : IsLawfulTree units.tree) (count : ℕ → ℕ) where
-  -- what a node's role says is what the node means
+  -- a node's role has the meaning of the node
   pub role_means : GivesOuts units.tree units.leaf → (d k : ℕ) → IsCounted units.tree count d k →
       Means units k (role_of units count d k).meaning
   unfolding role_of IsCounted kind_at
@@ -178,7 +178,7 @@ module _ (units : Units) (lawful : IsLawfulTree units.tree) (count : ℕ → ℕ
       (mapped_all (IsCounted units.tree count d) (λ p. Means units p (role_of units count d p).meaning) _
       (role_means gives d) counted.2)
 
-  -- how often it says that the node fires is the node's number
+  -- the role's number of firings is the node's
   pub role_fires : (d k : ℕ) → IsCounted units.tree count d k →
       (role_of units count d k).firings ≡ firings_by joined_firings units.tree count d k
   unfolding role_of IsCounted kind_at

@@ -9,7 +9,7 @@ use Rattle.p3l_skel.specs.Tree.{node_at}
 use Rattle.p3l_template.specs.laws.Rows.{at-same, at-other}
 use Rattle.p3l_firing.specs.declared.net.Net.{Net}
 use Rattle.p3l_firing.specs.declared.token.Token.{Token}
-use Rattle.p3l_firing.specs.Carried.{Carry, whole, Keeps}
+use Rattle.p3l_firing.specs.NetInvariants.{Invariants, whole, Keeps}
 use Rattle.p3l_firing.specs.Ways.{MayFire}
 use Rattle.p3l_firing.specs.Lists.{has_first, first_or, rest_of}
 use Rattle.p3l_firing.specs.Outcomes.{up_to_first_trap}
@@ -20,7 +20,7 @@ use Rattle.p3l_firing.proofs.Rows.{front_split}
 use Rattle.p3l_template.specs.Part.{Part, IsLawfulPart, IsAlike, IsInside, line, due}
 use Rattle.p3l_template.specs.Units.{Units}
 use Rattle.p3l_link.specs.Means.{Means}
-use Rattle.p3l_link.specs.Whole.{all_long, owed_round, carry_round}
+use Rattle.p3l_link.specs.Whole.{all_long, owed_round, invariants_round}
 
 pub long_all : (n : ℕ) (items : List (List ℤ)) → AllByRecursion (λ words. length words ≡ n) items → all_long n items ≡ true
 unfolding all_long
@@ -51,12 +51,12 @@ module _ (units : Units) (net : Net) (P : Part) (law : IsLawfulPart net units P)
   abbrev n : ℕ
   n = (node_at units.tree 0).ins
 
-  abbrev carry : Carry
-  carry = carry_round n P
+  abbrev invariants : Invariants
+  invariants = invariants_round n P
 
   -- from s to t all is kept
   abbrev Kept : State → State → Type 0
-  Kept s t = Keeps carry (item units.tree units.leaf 0) firings s t
+  Kept s t = Keeps invariants (item units.tree units.leaf 0) firings s t
 
   line_at : (s : State) → line P s ≡ s.tokens 1 ++ (P.pending s ++ map (over P.meaning) (s.tokens 0))
   unfolding line
@@ -107,7 +107,7 @@ module _ (units : Units) (net : Net) (P : Part) (law : IsLawfulPart net units P)
         ∙ ap (λ o. bodies (line P s) ++ o ∷ []) (means.same (Value (first_or [] s.unsent)) long)
 
     send_whole : has_first s.unsent ≡ true → length (first_or [] s.unsent) ≡ n →
-        whole carry (item units.tree units.leaf 0) (sends s) ≡ whole carry (item units.tree units.leaf 0) s
+        whole invariants (item units.tree units.leaf 0) (sends s) ≡ whole invariants (item units.tree units.leaf 0) s
     unfolding whole sends push
     send_whole full long =
         ap (λ z. s.emitted ++ z)
@@ -127,7 +127,7 @@ module _ (units : Units) (net : Net) (P : Part) (law : IsLawfulPart net units P)
         let w : firings * (s.sent + 1) ≡ firings * s.sent + firings = omega arith in
         omega (arith, y, p, o, z, w, owed_at s, owed_at (sends s), often)
 
-    pub send_keeps : has_first s.unsent ≡ true → carry.orderly s ≡ true → Kept s (sends s)
+    pub send_keeps : has_first s.unsent ≡ true → invariants.orderly s ≡ true → Kept s (sends s)
     unfolding sends push
     send_keeps full orderly =
         let both = and_parts _ _ orderly in
@@ -166,7 +166,7 @@ module _ (units : Units) (net : Net) (P : Part) (law : IsLawfulPart net units P)
         (ap₂ (λ x y. x ++ map (over P.meaning) y) take_alike.pending (take_other 0 (λ e. omega (arith, e))))))
 
     take_whole : has_first (s.tokens 1) ≡ true →
-        whole carry (item units.tree units.leaf 0) (takes s) ≡ whole carry (item units.tree units.leaf 0) s
+        whole invariants (item units.tree units.leaf 0) (takes s) ≡ whole invariants (item units.tree units.leaf 0) s
     unfolding whole takes pop bodies
     take_whole full =
         append_assoc s.emitted _ _
@@ -184,15 +184,15 @@ module _ (units : Units) (net : Net) (P : Part) (law : IsLawfulPart net units P)
         ap (λ m. (P.firings + 1) * m) x in
         omega (arith, y, p, o, z, owed_at s, owed_at (takes s))
 
-    pub take_keeps : has_trap s.emitted ≡ false → has_first (s.tokens 1) ≡ true → carry.orderly s ≡ true → Kept s (takes s)
+    pub take_keeps : has_trap s.emitted ≡ false → has_first (s.tokens 1) ≡ true → invariants.orderly s ≡ true → Kept s (takes s)
     unfolding takes pop
-    take_keeps calm full orderly =
+    take_keeps untrapped full orderly =
         let both = and_parts _ _ orderly in
         let work = take_work full in
         record {
           orderly = ap₂ (λ a b. a && b) (take_alike.orderly ∙ both.0) both.1;
           same = take_whole full;
-          emitted = λ e. emit_more s.emitted (front s 1).body calm;
+          emitted = λ e. emit_more s.emitted (front s 1).body untrapped;
           items = refl;
           work = omega arith;
         }
@@ -203,7 +203,7 @@ module _ (units : Units) (net : Net) (P : Part) (law : IsLawfulPart net units P)
     unfolding due
     due_at u = ap (λ c. P.firings * length (u.tokens c) + P.owed u) input
 
-    inner_whole : P.orderly s ≡ true → whole carry (item units.tree units.leaf 0) t ≡ whole carry (item units.tree units.leaf 0) s
+    inner_whole : P.orderly s ≡ true → whole invariants (item units.tree units.leaf 0) t ≡ whole invariants (item units.tree units.leaf 0) s
     unfolding whole
     inner_whole orderly =
         let m = law.moves s t p inside way in
@@ -216,7 +216,7 @@ module _ (units : Units) (net : Net) (P : Part) (law : IsLawfulPart net units P)
         let l : length (line P t) ≡ length (line P s) = ap length (law.step s t p inside way orderly).line in
         omega (arith, d, due_at s, due_at t, l, line_count s, line_count t, owed_at s, owed_at t)
 
-    pub inner_keeps : carry.orderly s ≡ true → Kept s t
+    pub inner_keeps : invariants.orderly s ≡ true → Kept s t
     inner_keeps orderly =
         let both = and_parts _ _ orderly in
         let m = law.moves s t p inside way in

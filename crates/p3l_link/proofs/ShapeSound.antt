@@ -6,7 +6,7 @@ use Rattle.p3l_firing.specs.declared.net.Net.{Net}
 use Rattle.p3l_firing.specs.State.{chan_at, no_chan}
 use Rattle.p3l_template.specs.Part.{Part}
 use Rattle.p3l_template.specs.Placed.{IsLawfulShape, IsGoodBase, IsPlaced, AreStanding, AreLaid, AreChained, HaveRoom, proc_end, chan_end}
-use Rattle.p3l_template.specs.Shape.{Shape, Role, Base, Seat, no_seat}
+use Rattle.p3l_template.specs.Shape.{Blueprint, Role, Base, Slot, no_slot}
 use Rattle.p3l_template.specs.Units.{Units}
 use Rattle.p3l_template.specs.laws.Row.{stands_split}
 use Rattle.p3l_link.specs.Laws.{IsPartAt}
@@ -34,8 +34,8 @@ laid_split net c xs ys h =
       },
     )
 
--- a seat between channels below `low`, of which the second has room for a token
-record IsUsable (net : Net) (low : ℕ) (x : Seat) : Type 0 where
+-- a slot between channels below `low`, of which the second has room for a token
+record IsUsable (net : Net) (low : ℕ) (x : Slot) : Type 0 where
   input : x.input < low
   output : x.output < low
   apart : x.input ≢ x.output
@@ -45,14 +45,14 @@ record IsUsable (net : Net) (low : ℕ) (x : Seat) : Type 0 where
 module _ (net : Net) (units : Units) (May : ℕ → Type 0) (roles : ℕ → Role) (piece : ℕ → Base → Piece) (part : ℕ → Base → Part)
     (each : (v : ℕ) (b : Base) → May v → IsGoodBase net b → AreStanding net b.proc (piece v b).procs →
     AreLaid net b.chan (piece v b).chans → IsPartAt net units (roles v) b (piece v b) (part v b)) (low : ℕ) where
-  record AreInner (xs : List Seat) (p c : ℕ) : Type 0 where
+  record AreInner (xs : List Slot) (p c : ℕ) : Type 0 where
     chain : AreChained net units roles p c xs (inner_parts part xs p c)
     procs : proc_end p (inner_parts part xs p c) ≡ p + length (inner_pieces piece xs p c).procs
     chans : chan_end c (inner_parts part xs p c) ≡ c + length (inner_pieces piece xs p c).chans
 
-  inner_sound : (xs : List Seat) (p c : ℕ) → low ≤ c →
-      ((v : ℕ) → v < length xs → May (get_or xs v no_seat).part) →
-      ((v : ℕ) → v < length xs → IsUsable net low (get_or xs v no_seat)) →
+  inner_sound : (xs : List Slot) (p c : ℕ) → low ≤ c →
+      ((v : ℕ) → v < length xs → May (get_or xs v no_slot).part) →
+      ((v : ℕ) → v < length xs → IsUsable net low (get_or xs v no_slot)) →
       AreStanding net p (inner_pieces piece xs p c).procs → AreLaid net c (inner_pieces piece xs p c).chans → AreInner xs p c
   unfolding inner_pieces inner_parts AreChained proc_end chan_end
   inner_sound [] p c l may usable s o = record { chain = tt; procs = omega arith; chans = omega arith }
@@ -93,11 +93,11 @@ module _ (net : Net) (units : Units) (May : ℕ → Type 0) (roles : ℕ → Rol
       }
 
 -- any lawful template, placed round sound parts
-module _ (net : Net) (units : Units) (shape : Shape) (law : IsLawfulShape shape) (May : ℕ → Type 0) (roles : ℕ → Role)
+module _ (net : Net) (units : Units) (shape : Blueprint) (law : IsLawfulShape shape) (May : ℕ → Type 0) (roles : ℕ → Role)
     (piece : ℕ → Base → Piece) (part : ℕ → Base → Part) (cap : ℕ) (pos : 0 < cap)
     (each : (v : ℕ) (b : Base) → May v → IsGoodBase net b → AreStanding net b.proc (piece v b).procs →
     AreLaid net b.chan (piece v b).chans → IsPartAt net units (roles v) b (piece v b) (part v b)) (base : Base) where
-  -- where its inner parts begin
+  -- the first process and the first channel of its inner parts
   abbrev first_proc : ℕ
   first_proc = base.proc + length (shape.procs base)
 
@@ -105,9 +105,9 @@ module _ (net : Net) (units : Units) (shape : Shape) (law : IsLawfulShape shape)
   first_chan = base.chan + shape.chans base
 
   abbrev inner : Piece
-  inner = inner_pieces piece (shape.seats base) first_proc first_chan
+  inner = inner_pieces piece (shape.slots base) first_proc first_chan
 
-  pub shape_sound : ((v : ℕ) → v < length (shape.seats base) → May (get_or (shape.seats base) v no_seat).part) → IsGoodBase net base →
+  pub shape_sound : ((v : ℕ) → v < length (shape.slots base) → May (get_or (shape.slots base) v no_slot).part) → IsGoodBase net base →
       AreStanding net base.proc (whole_piece shape cap piece base).procs →
       AreLaid net base.chan (whole_piece shape cap piece base).chans →
       IsPartAt net units (record { meaning = shape.meaning units roles; firings = shape.firings units roles }) base
@@ -123,8 +123,8 @@ module _ (net : Net) (units : Units) (shape : Shape) (law : IsLawfulShape shape)
             subst (λ z. 0 < z.cap) (sym (ap (chan_at net) (sym e) ∙ oo.0.at (k - base.chan) l))
             (law.rooms cap base (k - base.chan) pos l);
       } in
-      let q = inner_sound net units May roles piece part each first_chan (shape.seats base) first_proc first_chan (le_refl _) may
-      (λ v h. let g = law.seats net base good v (omega (arith, h, law.count base)) in
+      let q = inner_sound net units May roles piece part each first_chan (shape.slots base) first_proc first_chan (le_refl _) may
+      (λ v h. let g = law.slots net base good v (omega (arith, h, law.count base)) in
       record {
         input = g.input;
         output = g.output;
@@ -135,7 +135,7 @@ module _ (net : Net) (units : Units) (shape : Shape) (law : IsLawfulShape shape)
         ];
       })
       ss.1 (subst (λ z. AreLaid net (base.chan + z) inner.chans) n oo.1) in
-      let parts : List Part = inner_parts part (shape.seats base) first_proc first_chan in
+      let parts : List Part = inner_parts part (shape.slots base) first_proc first_chan in
       let placed : IsPlaced net units roles shape base parts =
       record { good = good; procs = ss.0; chans = rooms; cap = cap; pos = pos; laid = oo.0; inner = q.chain } in
       let l = law.lies net units roles base parts placed in

@@ -17,41 +17,41 @@ use Rattle.p3l_skel.proofs.Depth.{lawful_at}
 use Rattle.p3l_skel.proofs.Powers.{small_exponent}
 use Rattle.p3l_firing.specs.Segments.{level_of, segment_lengths}
 use Rattle.p3l_template.specs.Placed.{IsLawfulShape}
-use Rattle.p3l_template.specs.Pipe.{stage_seats}
-use Rattle.p3l_template.specs.Shape.{Base, Seat, Shape, fan_seats, no_seat}
+use Rattle.p3l_template.specs.Pipe.{stage_slots}
+use Rattle.p3l_template.specs.Shape.{Base, Slot, Blueprint, fan_slots, no_slot}
 use Rattle.p3l_reduce.specs.Reduce.{fold_procs, join_procs, reduce_shape}
 use Rattle.p3l_reduce.specs.laws.ReduceLaw.{joins_length, lengths_length}
 use Rattle.p3l_reduce.specs.laws.ReduceTyping.{level_exact}
 use Rattle.p3l_link.specs.Counts.{HasOwnCount, IsCounted}
 use Rattle.p3l_link.specs.Net.{Piece, HasRoom, base_at, end_net, inner_pieces, linked_net, piece_of, root_base, root_piece, whole_piece}
 use Rattle.p3l_link.specs.Shape.{kind_at, kind_row, shape_row}
-use Rattle.p3l_link.proofs.Counted.{root_counted, row_lawful, seat_counted}
+use Rattle.p3l_link.proofs.Counted.{root_counted, row_lawful, slot_counted}
 
 pub record IsSizedPiece (F : Piece) (n : ℕ) : Type 0 where
   pub procs : length F.procs ≡ n
   pub chans : length F.chans + 2 ≤ 2 * n
 
--- what inner parts at `seats` seats come to, where all have n processes
-record IsSizedInner (F : Piece) (n seats : ℕ) : Type 0 where
+-- the size of the inner parts at `slots` slots: n processes, and at most 2 * n channels, less two for each slot
+record IsSizedInner (F : Piece) (n slots : ℕ) : Type 0 where
   procs : length F.procs ≡ n
-  chans : length F.chans + 2 * seats ≤ 2 * n
+  chans : length F.chans + 2 * slots ≤ 2 * n
 
--- the processes of the parts at these seats, where part v has m v
-seats_sum : (ℕ → ℕ) → List Seat → ℕ
-seats_sum m [] = 0
-seats_sum m (seat ∷ seats) = m seat.part + seats_sum m seats
+-- the processes of the parts at these slots, where part v has m v
+slots_sum : (ℕ → ℕ) → List Slot → ℕ
+slots_sum m [] = 0
+slots_sum m (slot ∷ slots) = m slot.part + slots_sum m slots
 
-inner_size : (f : ℕ → Base → Piece) (m : ℕ → ℕ) (seats : List Seat) (p c : ℕ) →
-    ((v : ℕ) → v < length seats → (b : Base) →
-    IsSizedPiece (f (get_or seats v no_seat).part b) (m (get_or seats v no_seat).part)) →
-    IsSizedInner (inner_pieces f seats p c) (seats_sum m seats) (length seats)
-unfolding inner_pieces seats_sum
+inner_size : (f : ℕ → Base → Piece) (m : ℕ → ℕ) (slots : List Slot) (p c : ℕ) →
+    ((v : ℕ) → v < length slots → (b : Base) →
+    IsSizedPiece (f (get_or slots v no_slot).part b) (m (get_or slots v no_slot).part)) →
+    IsSizedInner (inner_pieces f slots p c) (slots_sum m slots) (length slots)
+unfolding inner_pieces slots_sum
 inner_size f m [] p c each = record { procs = refl; chans = omega arith }
 inner_size f m (x ∷ xs) p c each =
     let here : IsSizedPiece (f x.part (base_at x p c)) (m x.part) = each 0 (omega arith) (base_at x p c) in
     let F : Piece = f x.part (base_at x p c) in
     let G : Piece = inner_pieces f xs (p + length F.procs) (c + length F.chans) in
-    let rest : IsSizedInner G (seats_sum m xs) (length xs) =
+    let rest : IsSizedInner G (slots_sum m xs) (length xs) =
     inner_size f m xs (p + length F.procs) (c + length F.chans) (λ v l b. each (suc v) (omega arith) b) in
     record {
       procs = omega (arith, length-append F.procs G.procs, here.procs, rest.procs);
@@ -59,31 +59,31 @@ inner_size f m (x ∷ xs) p c each =
     }
 
 -- a template's own processes and channels with its inner parts
-whole_size : (shape : Shape) (law : IsLawfulShape shape) (cap : ℕ) (f : ℕ → Base → Piece) (m : ℕ → ℕ) (base : Base)
+whole_size : (shape : Blueprint) (law : IsLawfulShape shape) (cap : ℕ) (f : ℕ → Base → Piece) (m : ℕ → ℕ) (base : Base)
     (total : ℕ) →
-    ((v : ℕ) → v < length (shape.seats base) → (b : Base) →
-    IsSizedPiece (f (get_or (shape.seats base) v no_seat).part b) (m (get_or (shape.seats base) v no_seat).part)) →
-    length (shape.procs base) + seats_sum m (shape.seats base) ≡ total →
-    shape.chans base + 2 + 2 * seats_sum m (shape.seats base) ≤ 2 * total + 2 * shape.inner →
+    ((v : ℕ) → v < length (shape.slots base) → (b : Base) →
+    IsSizedPiece (f (get_or (shape.slots base) v no_slot).part b) (m (get_or (shape.slots base) v no_slot).part)) →
+    length (shape.procs base) + slots_sum m (shape.slots base) ≡ total →
+    shape.chans base + 2 + 2 * slots_sum m (shape.slots base) ≤ 2 * total + 2 * shape.inner →
     IsSizedPiece (whole_piece shape cap f base) total
 whole_size shape law cap f m base total each same few =
-    let G : Piece = inner_pieces f (shape.seats base) (base.proc + length (shape.procs base)) (base.chan + shape.chans base) in
-    let inner = inner_size f m (shape.seats base) (base.proc + length (shape.procs base)) (base.chan + shape.chans base) each in
+    let G : Piece = inner_pieces f (shape.slots base) (base.proc + length (shape.procs base)) (base.chan + shape.chans base) in
+    let inner = inner_size f m (shape.slots base) (base.proc + length (shape.procs base)) (base.chan + shape.chans base) each in
     record {
       procs = omega (arith, length-append (shape.procs base) G.procs, inner.procs, same);
       chans = omega (arith, length-append (shape.laid cap base) G.chans, inner.chans, law.laid cap base, law.count base, few);
     }
 
-fan_sum : (m : ℕ → ℕ) (i o n : ℕ) → seats_sum m (fan_seats i o n) ≡ n * m 0
-unfolding seats_sum fan_seats
+fan_sum : (m : ℕ → ℕ) (i o n : ℕ) → slots_sum m (fan_slots i o n) ≡ n * m 0
+unfolding slots_sum fan_slots
 fan_sum m i o zero = omega arith
 fan_sum m i o (suc n) = omega (arith, fan_sum m (suc i) (suc o) n)
 
 -- the stages from u on are these parts in order
 stage_sum : (m below : ℕ → ℕ) (ps : List ℕ) (u x c y k : ℕ) → length ps ≡ suc k →
     ((v : ℕ) → v < length ps → m (u + v) ≡ below (get_or ps v 0)) →
-    seats_sum m (stage_seats u x c y k) ≡ sum_by below ps
-unfolding seats_sum stage_seats
+    slots_sum m (stage_slots u x c y k) ≡ sum_by below ps
+unfolding slots_sum stage_slots
 stage_sum m below [] u x c y k long same = absurd (omega arith)
 stage_sum m below (p ∷ []) u x c y zero long same =
     let e : u + 0 ≡ u = omega arith in
@@ -106,7 +106,7 @@ folds_length node m output first t s (l ∷ ls) = ap suc (folds_length node m ou
 -- a reduce of a power of two of segments
 reduce_size : (k len level cap : ℕ) (law : IsLawfulShape (reduce_shape k len level)) (f : ℕ → Base → Piece) (base : Base) →
     IsSizedPiece (whole_piece (reduce_shape k len level) cap f base) (joined_procs (2 ^ level))
-unfolding reduce_shape seats_sum
+unfolding reduce_shape slots_sum
 reduce_size k len zero cap law f base =
     whole_size (reduce_shape k len zero) law cap f (λ v. 0) base (joined_procs (2 ^ 0)) (λ v l b. absurd (omega arith)) refl
     (omega arith)
@@ -130,12 +130,12 @@ reduce_size k len (suc d) cap law f base =
 
 module _ (tree : Tree) (ins outs k n cap : ℕ) (below : ℕ → ℕ) (f : ℕ → Base → Piece) (base : Base) where
   row_size : (form : Form) (ps : List ℕ) → IsLawfulForm tree form ins outs ps → HasOwnCount form n →
-      ((v : ℕ) → v < length ((shape_row form k (length ps) n).seats base) → (b : Base) →
-      IsSizedPiece (f (get_or ((shape_row form k (length ps) n).seats base) v no_seat).part b)
-      (below (slice_index ps (get_or ((shape_row form k (length ps) n).seats base) v no_seat).part))) →
+      ((v : ℕ) → v < length ((shape_row form k (length ps) n).slots base) → (b : Base) →
+      IsSizedPiece (f (get_or ((shape_row form k (length ps) n).slots base) v no_slot).part b)
+      (below (slice_index ps (get_or ((shape_row form k (length ps) n).slots base) v no_slot).part))) →
       IsSizedPiece (whole_piece (shape_row form k (length ps) n) cap f base)
       (procs_row form n (sum_by below (outside_parts form ps)))
-  unfolding kind_row seats_sum
+  unfolding kind_row slots_sum
   row_size Seq ps lawful own each =
       whole_size (shape_row Seq k (length ps) n) (row_lawful tree Seq ins outs ps k n lawful own) cap f
       (λ v. below (slice_index ps v)) base 1 each refl (omega arith)
@@ -197,7 +197,7 @@ piece_sized tree count cap (suc d) k base lawful h =
     subst (IsSizedPiece (piece_of tree count cap (suc d) k base)) (sym step)
     (row_size tree node.ins node.outs k (count k) cap (procs_by tree count d)
     (λ v. piece_of tree count cap d (part_at tree k v)) base node.form node.parts (lawful_at tree lawful k h.0).form h.1
-    (λ v l b. piece_sized tree count cap d _ b lawful (seat_counted tree count k lawful h.0 base v l d h)))
+    (λ v l b. piece_sized tree count cap d _ b lawful (slot_counted tree count k lawful h.0 base v l d h)))
 
 module _ (tree : Tree) (counts : List ℕ) (cap : ℕ) (lawful : IsLawfulTree tree) (h : HasLawfulCounts tree counts) where
   pub root_sized : IsSizedPiece (root_piece tree counts cap) (procs tree counts 0)

@@ -12,7 +12,7 @@ use Rattle.p3l_link.specs.Laws.{IsPartAt, EveryPlacedNodeIsAPart}
 use Rattle.p3l_link.specs.Net.{piece_of}
 use Rattle.p3l_link.specs.Part.{role_of, part_of}
 use Rattle.p3l_link.specs.Shape.{shape_at}
-use Rattle.p3l_link.proofs.Counted.{counted_there, counted_own, shape_lawful, seat_counted}
+use Rattle.p3l_link.proofs.Counted.{counted_there, counted_own, shape_lawful, slot_counted}
 use Rattle.p3l_link.proofs.ShapeSound.{shape_sound}
 
 -- every placed node is sound
@@ -32,7 +32,7 @@ module _ (net : Net) (units : Units) (lawful : IsLawfulTree units.tree) (count :
       (λ v. piece_of units.tree count cap d (part_at units.tree k v))
       (λ v. part_of units count d (part_at units.tree k v))
       cap pos (λ v b may. sound d (part_at units.tree k v) b may)
-      base (λ v seat. seat_counted units.tree count k lawful there base v seat d counted) good s o
+      base (λ v slot. slot_counted units.tree count k lawful there base v slot d counted) good s o
 
 pub placed_part : EveryPlacedNodeIsAPart
 placed_part net units count cap d k base lawful pos counted stands =

@@ -1,6 +1,6 @@
--- The net of a lawful tree is typed (`net_typed`): by one recursion on the depth, what each node
--- places with all that is below it reads and writes each of its channels once and fits there
--- (`piece_typed`). What holds of each form is the templates' own law (`row_typed`).
+-- The net of a lawful tree is typed (`net_typed`). By one recursion on the depth, the processes of a
+-- node and of all below it read and write each of its channels once and fit there
+-- (`piece_typed`). For each form this follows from the templates' own law (`row_typed`).
 use Rattle.std.proofs.Common.{◌≡◌, ℕ, zero, suc, ◌+◌, ◌*◌, ◌≢◌, ◌<◌, ◌≤◌, true, false, Option, Some, None, List, [], ◌∷◌, ◌++◌, length, get_or, slice_get, slice_index, refl, sym, ap, ◌∙◌, subst, arith, inl, inr, length-append}
 use Rattle.std.specs.Prelude.{◌==◌}
 use Rattle.std.specs.List.{AllByRecursion}
@@ -27,8 +27,8 @@ use Rattle.p3l_firing.specs.Typed.{FitsChannel, FitsKind, IsTyped}
 use Rattle.p3l_firing.specs.Widths.{Widths, Carries}
 use Rattle.p3l_firing.specs.kinds.Run.{Takes}
 use Rattle.p3l_template.specs.Placed.{IsLawfulShape}
-use Rattle.p3l_template.specs.Shape.{Base, Seat, Shape, no_seat, numbers_from}
-use Rattle.p3l_template.specs.Typing.{Carry, IsInner, IsTypedShape, SeatFits, StandsTyped}
+use Rattle.p3l_template.specs.Shape.{Base, Slot, Blueprint, no_slot, numbers_from}
+use Rattle.p3l_template.specs.Typing.{Carry, IsInner, IsTypedShape, SlotFits, StandsTyped}
 use Rattle.p3l_template.specs.Width.{no_width}
 use Rattle.p3l_template.specs.declared.width.Width.{Width}
 use Rattle.p3l_template.specs.laws.TimesLaw.{times_cons}
@@ -37,7 +37,7 @@ use Rattle.p3l_link.specs.Net.{Piece, base_at, end_net, inner_pieces, linked_net
 use Rattle.p3l_link.specs.Node.{Serves}
 use Rattle.p3l_link.specs.Shape.{kind_at as node_kind, kind_row, shape_at, template_at, template_row}
 use Rattle.p3l_link.specs.NodeLaw.{kind_counted, kind_typed}
-use Rattle.p3l_link.proofs.Counted.{root_counted, seat_counted, shape_lawful}
+use Rattle.p3l_link.proofs.Counted.{root_counted, slot_counted, shape_lawful}
 use Rattle.p3l_link.proofs.Once.{HasOnce, HaveOnce, inner_once, whole_once}
 use Rattle.p3l_link.proofs.Size.{root_sized}
 use Rattle.p3l_link.proofs.Widths.{AllRows, all_append, carry_left, carry_right, rows_append, rows_at, rows_few, rows_from}
@@ -146,7 +146,7 @@ record FitsRow (most : ℕ) (chan : Chan) (row : Width) : Type 0 where
 
 -- PIECES
 
--- what node k places to depth d at a base, where tokens outside have t tags: it has a row of widths
+-- the piece of node k to depth d at a base, if tokens outside have t tags: it has a row of widths
 -- for its channels, it reads and writes each of them and its ports once, and it fits there
 record IsTypedPiece (tree : Tree) (k d : ℕ) (base : Base) (t : ℕ) (F : Piece) : Type 0 where
   rows : List Width
@@ -157,20 +157,20 @@ record IsTypedPiece (tree : Tree) (k d : ℕ) (base : Base) (t : ℕ) (F : Piece
   fits : (w : Widths) → Carries w base.input (node_at tree k).ins t → Carries w base.output (node_at tree k).outs t →
       Carry w base.chan rows → AllByRecursion (λ (q : Proc). FitsKind q.kind tree w q) F.procs
 
--- the same of the inner parts of node k at these seats, whose channels are those from c on
-record IsTypedInner (tree : Tree) (k d : ℕ) (seats : List Seat) (c t : ℕ) (F : Piece) : Type 0 where
+-- the same of the inner parts of node k at these slots, whose channels are those from c on
+record IsTypedInner (tree : Tree) (k d : ℕ) (slots : List Slot) (c t : ℕ) (F : Piece) : Type 0 where
   rows : List Width
   count : length rows ≡ length F.chans
   fit : (most : ℕ) → t + 2 * d ≤ most → AllRows (FitsRow most) F.chans rows
-  once : HaveOnce seats c F
+  once : HaveOnce slots c F
   inner : AllByRecursion (λ (q : Proc). IsInner q.kind) F.procs
-  fits : (w : Widths) → ((v : ℕ) → v < length seats → SeatFits tree k w t (get_or seats v no_seat)) → Carry w c rows →
+  fits : (w : Widths) → ((v : ℕ) → v < length slots → SlotFits tree k w t (get_or slots v no_slot)) → Carry w c rows →
       AllByRecursion (λ (q : Proc). FitsKind q.kind tree w q) F.procs
 
-inner_typed : (tree : Tree) (k d t : ℕ) (f : ℕ → Base → Piece) (seats : List Seat) (p c : ℕ) →
-    ((v : ℕ) → v < length seats → (b : Base) →
-    IsTypedPiece tree (part_at tree k (get_or seats v no_seat).part) d b t (f (get_or seats v no_seat).part b)) →
-    IsTypedInner tree k d seats c t (inner_pieces f seats p c)
+inner_typed : (tree : Tree) (k d t : ℕ) (f : ℕ → Base → Piece) (slots : List Slot) (p c : ℕ) →
+    ((v : ℕ) → v < length slots → (b : Base) →
+    IsTypedPiece tree (part_at tree k (get_or slots v no_slot).part) d b t (f (get_or slots v no_slot).part b)) →
+    IsTypedInner tree k d slots c t (inner_pieces f slots p c)
 unfolding inner_pieces AllRows
 inner_typed tree k d t f [] p c each = record {
   rows = [];
@@ -195,7 +195,7 @@ inner_typed tree k d t f (x ∷ xs) p c each =
       once = inner_once f (x ∷ xs) p c (λ v l b. let it = each v l b in it.once);
       inner = all_append (λ (q : Proc). IsInner q.kind) F.procs G.procs here.inner rest.inner;
       fits = λ w s h.
-          let first : SeatFits tree k w t x = s 0 (omega arith) in
+          let first : SlotFits tree k w t x = s 0 (omega arith) in
           all_append (λ (q : Proc). FitsKind q.kind tree w q) F.procs G.procs
           (here.fits w first.input first.output (carry_left w c here.rows rest.rows h))
           (rest.fits w (λ v l. s (suc v) (omega arith))
@@ -203,18 +203,18 @@ inner_typed tree k d t f (x ∷ xs) p c each =
     }
 
 -- a template that is typed, round inner parts that are
-whole_typed : (tree : Tree) (k d t : ℕ) (cap : ℕ) (pos : 0 < cap) (shape : Shape) (law : IsLawfulShape shape)
+whole_typed : (tree : Tree) (k d t : ℕ) (cap : ℕ) (pos : 0 < cap) (shape : Blueprint) (law : IsLawfulShape shape)
     (typed : IsTypedShape tree k shape) (f : ℕ → Base → Piece) (base : Base) →
-    ((v : ℕ) → v < length (shape.seats base) → (b : Base) →
-    IsTypedPiece tree (part_at tree k (get_or (shape.seats base) v no_seat).part) d b (t + typed.deeper)
-    (f (get_or (shape.seats base) v no_seat).part b)) →
+    ((v : ℕ) → v < length (shape.slots base) → (b : Base) →
+    IsTypedPiece tree (part_at tree k (get_or (shape.slots base) v no_slot).part) d b (t + typed.deeper)
+    (f (get_or (shape.slots base) v no_slot).part b)) →
     IsTypedPiece tree k (suc d) base t (whole_piece shape cap f base)
 whole_typed tree k d t cap pos shape law typed f base each =
-    let seats : List Seat = shape.seats base in
+    let slots : List Slot = shape.slots base in
     let own : List Chan = shape.laid cap base in
-    let G : Piece = inner_pieces f seats (base.proc + length (shape.procs base)) (base.chan + shape.chans base) in
-    let rest : IsTypedInner tree k d seats (base.chan + shape.chans base) (t + typed.deeper) G =
-    inner_typed tree k d (t + typed.deeper) f seats (base.proc + length (shape.procs base)) (base.chan + shape.chans base) each in
+    let G : Piece = inner_pieces f slots (base.proc + length (shape.procs base)) (base.chan + shape.chans base) in
+    let rest : IsTypedInner tree k d slots (base.chan + shape.chans base) (t + typed.deeper) G =
+    inner_typed tree k d (t + typed.deeper) f slots (base.proc + length (shape.procs base)) (base.chan + shape.chans base) each in
     let long : length own ≡ shape.chans base = law.laid cap base in
     let wide : length (typed.widths t) ≡ shape.chans base = typed.count t base in
     let many : length (own ++ G.chans) ≡ shape.chans base + length G.chans = omega (arith, length-append own G.chans, long) in
@@ -241,7 +241,7 @@ whole_typed tree k d t cap pos shape law typed f base each =
       fits = λ w i o h.
           let s = stands w i o h in
           all_append (λ (q : Proc). FitsKind q.kind tree w q) (shape.procs base) G.procs (typed.procs w base t s)
-          (rest.fits w (λ v l. typed.seats w base t s v l)
+          (rest.fits w (λ v l. typed.slots w base t s v l)
           (subst (λ n. Carry w (base.chan + n) rest.rows) wide (carry_right w base.chan (typed.widths t) rest.rows h)));
     }
 
@@ -252,7 +252,7 @@ piece_typed tree count cap pos lawful zero k base t h = absurd h
 piece_typed tree count cap pos lawful (suc d) k base t h =
     whole_typed tree k d t cap pos (shape_at tree count k) (shape_lawful tree count k lawful h.0 h.1)
     (shape_typed tree count k lawful h.0 h.1) (λ v. piece_of tree count cap d (part_at tree k v)) base
-    (λ v l b. piece_typed tree count cap pos lawful d _ b _ (seat_counted tree count k lawful h.0 base v l d h))
+    (λ v l b. piece_typed tree count cap pos lawful d _ b _ (slot_counted tree count k lawful h.0 base v l d h))
 
 -- THE WHOLE NET
 
@@ -292,7 +292,7 @@ numbers_once (suc n) c x a b = elim (cases_lt c x) [
       )
 ]
 
--- what holds of each number that is in a list holds of all
+-- a property of each number in a list holds of all
 all_standing : (P : ℕ → Type 0) (xs : List ℕ) → ((x : ℕ) → 0 < times x xs → P x) → AllByRecursion P xs
 all_standing P [] h = tt
 all_standing P (x ∷ xs) h = (

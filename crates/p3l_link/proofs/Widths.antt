@@ -41,7 +41,7 @@ rows_at Fits (x ∷ xs) [] i h l = absurd h
 rows_at Fits (x ∷ xs) (w ∷ ws) zero h l = h.0
 rows_at Fits (x ∷ xs) (w ∷ ws) (suc i) h l = rows_at Fits xs ws i h.1 (omega arith)
 
--- where all that fits has few tags, all widths have
+-- all widths have few tags, if all fitting ones have
 pub rows_few : (Fits : Chan → Width → Type 0) (most : ℕ) → ((x : Chan) (w : Width) → Fits x w → w.tags ≤ most) →
     (xs : List Chan) (ws : List Width) (i : ℕ) → AllRows Fits xs ws → (get_or ws i no_width).tags ≤ most
 unfolding AllRows

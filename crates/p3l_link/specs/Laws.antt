@@ -7,7 +7,7 @@ use Rattle.p3l_skel.specs.Lawful.{IsLawfulTree}
 use Rattle.p3l_skel.specs.Numbers.{firings, firings_by, joined_firings}
 use Rattle.p3l_skel.specs.Tree.{node_at, GivesOuts, HasLength}
 use Rattle.p3l_firing.specs.declared.net.Net.{Net}
-use Rattle.p3l_firing.specs.Carried.{HaveInWords, IsCarried, whole}
+use Rattle.p3l_firing.specs.NetInvariants.{HaveInWords, HasInvariants, whole}
 use Rattle.p3l_firing.specs.Fire.{IsStuck, can_fire, fire}
 use Rattle.p3l_firing.specs.Outcomes.{IsPrefixOf}
 use Rattle.p3l_firing.specs.RoundRobin.{round_robin}
@@ -24,7 +24,7 @@ use Rattle.p3l_link.specs.Counts.{IsCounted}
 use Rattle.p3l_link.specs.Means.{Means}
 use Rattle.p3l_link.specs.Net.{Piece, piece_of, linked_net}
 use Rattle.p3l_link.specs.Part.{role_of, part_of, root_part}
-use Rattle.p3l_link.specs.Whole.{owed_round, root_carry, tokens_in}
+use Rattle.p3l_link.specs.Whole.{owed_round, root_invariants, tokens_in}
 
 -- these processes and channels are in the net from the base on, which is between two channels that
 -- were given out before
@@ -45,8 +45,8 @@ pub record IsPartAt (net : Net) (units : Units) (role : Role) (base : Base) (pie
   pub proc_to : P.proc_to ≡ base.proc + length piece.procs
   pub chan_to : P.chan_to ≡ base.chan + length piece.chans
 
--- what is said of node k, as it is placed with all that is below it down to depth d, is what it means: it makes of words what the
--- language says, which has its out words, and fires for a token as often as is said of the tree
+-- the role of node k, placed with all that is below it down to depth d, does the node's work: it has the meaning that the language
+-- gives, with its out words, and its number of firings for a token is the tree's
 pub record DoesItsNode (units : Units) (count : ℕ → ℕ) (d k : ℕ) : Type 0 where
   pub means : Means units k (role_of units count d k).meaning
   pub words : (o : Outcome) → HasLength (node_at units.tree k).ins o →
@@ -76,7 +76,7 @@ pub record IsRoot (units : Units) (counts : List ℕ) (cap : ℕ) : Type 0 where
       HasLength (node_at units.tree 0).outs ((root_part units counts).meaning o)
   pub firings : (root_part units counts).firings + 2 ≡ firings units.tree counts
 
--- what every firing keeps: the root is orderly, and each item not yet sent has its in words
+-- the invariant of every firing: the root is orderly, and each item not yet sent has its in words
 pub record IsOrderly (units : Units) (counts : List ℕ) (s : State) : Type 0 where
   pub root : (root_part units counts).orderly s ≡ true
   pub items : HaveInWords units.tree s.unsent
@@ -91,15 +91,15 @@ pub record IsFinished (units : Units) (counts : List ℕ) (s : State) : Type 0 w
 -- before anything has fired the state is orderly, and the whole list is what the root makes of the items
 pub record IsBegun (units : Units) (counts : List ℕ) (cap : ℕ) (items : List (List ℤ)) : Type 0 where
   pub orderly : IsOrderly units counts (first_state (net_of units counts cap) items)
-  pub whole : whole (root_carry units counts) (item units.tree units.leaf 0) (first_state (net_of units counts cap) items)
+  pub whole : whole (root_invariants units counts) (item units.tree units.leaf 0) (first_state (net_of units counts cap) items)
       ≡ map (item units.tree units.leaf 0) items
 
 -- a firing from s to t keeps the order and the whole list: the outcomes emitted, those of the tokens after the root, in it and
 -- before it, and those of the items not yet sent; and it takes from what is owed
 pub record IsStep (units : Units) (counts : List ℕ) (s t : State) : Type 0 where
   pub orderly : IsOrderly units counts t
-  pub whole : whole (root_carry units counts) (item units.tree units.leaf 0) t
-      ≡ whole (root_carry units counts) (item units.tree units.leaf 0) s
+  pub whole : whole (root_invariants units counts) (item units.tree units.leaf 0) t
+      ≡ whole (root_invariants units counts) (item units.tree units.leaf 0) s
   pub items : t.sent + length t.unsent ≡ s.sent + length s.unsent
   pub work : (owed_round (root_part units counts) t + 1) + firings units.tree counts * s.sent
       ≤ owed_round (root_part units counts) s + firings units.tree counts * t.sent
@@ -119,10 +119,10 @@ EveryNodeDoesWhatItMeans =
 abbrev pub EveryRootIsAPart : Type 0
 EveryRootIsAPart = (units : Units) (counts : List ℕ) (cap : ℕ) → IsLinkable units counts cap → IsRoot units counts cap
 
-abbrev pub EveryNetIsCarried : Type 0
-EveryNetIsCarried =
+abbrev pub EveryNetHasInvariants : Type 0
+EveryNetHasInvariants =
     (units : Units) (counts : List ℕ) (cap : ℕ) → IsLinkable units counts cap →
-    IsCarried units.tree units.leaf (net_of units counts cap) (firings units.tree counts) (root_carry units counts)
+    HasInvariants units.tree units.leaf (net_of units counts cap) (firings units.tree counts) (root_invariants units counts)
 
 abbrev pub EveryRunBeginsOrderly : Type 0
 EveryRunBeginsOrderly =

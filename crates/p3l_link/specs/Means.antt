@@ -1,4 +1,4 @@
--- What a part of a net makes of outcomes, and what its node makes of words.
+-- Functions of outcomes that agree with a node's function of words.
 use Rattle.std.specs.Prelude.{◌≡◌, ℕ}
 use Rattle.p3l_base.specs.declared.outcome.Outcome.{Outcome}
 use Rattle.p3l_skel.specs.Tree.{node_at, HasLength}

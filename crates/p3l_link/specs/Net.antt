@@ -7,7 +7,7 @@ use Rattle.p3l_firing.specs.declared.net.Chan.{Chan}
 use Rattle.p3l_firing.specs.declared.net.Net.{Net}
 use Rattle.p3l_firing.specs.declared.process.Proc.{Proc}
 use Rattle.p3l_firing.specs.Single.{the_source, the_sink}
-use Rattle.p3l_template.specs.Shape.{Base, Seat, Shape, HasRoomFor, added, empty_chan}
+use Rattle.p3l_template.specs.Shape.{Base, Slot, Blueprint, HasRoomFor, added, empty_chan}
 use Rattle.p3l_template.specs.Run.{run_shape}
 use Rattle.p3l_link.specs.Shape.{shape_at}
 
@@ -23,11 +23,11 @@ no_piece = record { procs = []; chans = [] }
 abbrev pub followed : Piece → Piece → Piece
 followed one other = record { procs = one.procs ++ other.procs; chans = one.chans ++ other.chans }
 
--- where the inner part of a seat is placed, with its first process p and its first channel c
-abbrev pub base_at : Seat → (p c : ℕ) → Base
-base_at seat p c = record { input = seat.input; output = seat.output; proc = p; chan = c }
+-- the base of the inner part at a slot, with its first process p and its first channel c
+abbrev pub base_at : Slot → (p c : ℕ) → Base
+base_at slot p c = record { input = slot.input; output = slot.output; proc = p; chan = c }
 
--- what is built, with a piece after it
+-- the net built so far, with a piece after it
 abbrev pub with_piece : Net → Piece → Net
 with_piece built piece = added built piece.procs piece.chans
 
@@ -35,25 +35,25 @@ with_piece built piece = added built piece.procs piece.chans
 abbrev pub HasRoom : Net → Piece → Type 0
 HasRoom built piece = HasRoomFor built (length piece.procs) (length piece.chans)
 
--- the inner parts at these seats, one after the other, from process p and channel c on
-unfoldable pub inner_pieces : (ℕ → Base → Piece) → List Seat → (p c : ℕ) → Piece
+-- the inner parts at these slots, one after the other, from process p and channel c on
+unfoldable pub inner_pieces : (ℕ → Base → Piece) → List Slot → (p c : ℕ) → Piece
 inner_pieces piece [] p c = no_piece
-inner_pieces piece (seat ∷ seats) p c =
-    let here : Piece = piece seat.part (base_at seat p c) in
-    followed here (inner_pieces piece seats (p + length here.procs) (c + length here.chans))
+inner_pieces piece (slot ∷ slots) p c =
+    let here : Piece = piece slot.part (base_at slot p c) in
+    followed here (inner_pieces piece slots (p + length here.procs) (c + length here.chans))
 
 -- a template's own processes and channels
-abbrev pub own_piece : Shape → (cap : ℕ) → Base → Piece
+abbrev pub own_piece : Blueprint → (cap : ℕ) → Base → Piece
 own_piece shape cap base = record { procs = shape.procs base; chans = shape.laid cap base }
 
 -- its own ones first, then its inner parts in order, where it is known what each part of its node
 -- places
-abbrev pub whole_piece : Shape → (cap : ℕ) → (ℕ → Base → Piece) → Base → Piece
+abbrev pub whole_piece : Blueprint → (cap : ℕ) → (ℕ → Base → Piece) → Base → Piece
 whole_piece shape cap piece base =
     followed (own_piece shape cap base)
-    (inner_pieces piece (shape.seats base) (base.proc + length (shape.procs base)) (base.chan + shape.chans base))
+    (inner_pieces piece (shape.slots base) (base.proc + length (shape.procs base)) (base.chan + shape.chans base))
 
--- what node k places, with all that is below it down to depth d, in a net whose channels have this
+-- the piece of node k, with all that is below it down to depth d, in a net whose channels have this
 -- capacity; at depth 0 a node is one process
 unfoldable pub piece_of : Tree → (ℕ → ℕ) → (cap d k : ℕ) → Base → Piece
 piece_of tree count cap zero k base = own_piece (run_shape k) cap base
@@ -64,7 +64,7 @@ piece_of tree count cap (suc d) k base =
 abbrev pub node_piece : Tree → List ℕ → (cap d k : ℕ) → Base → Piece
 node_piece tree counts cap d k = piece_of tree (count_of tree counts) cap d k
 
--- what part v of node k places
+-- the piece of part v of node k
 abbrev pub part_piece : Tree → (ℕ → ℕ) → (cap d k : ℕ) → ℕ → Base → Piece
 part_piece tree count cap d k v = piece_of tree count cap d (part_at tree k v)
 

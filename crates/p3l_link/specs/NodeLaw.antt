@@ -53,7 +53,7 @@ kind_typed (Map t) tree node s = map_serves tree t.node node t.workers s
 kind_typed (Reduce t) tree node s = reduce_serves tree t.node node t.segments t.len s
 kind_typed (Loop t) tree node s = loop_serves tree t.node node t.tokens s
 
--- what is found in it by the tags alone is what its part is
+-- the finding in it by the tags alone is that of its part
 pub kind_found : (t : NodeTemplate) → IsFoundShape (kind_of t).shape (kind_of t).finds
 kind_found (Run t) = run_found t.node
 kind_found (Pipe t) = pipe_found (t.stages - 1)

@@ -1,4 +1,4 @@
--- Which template a node has: the one table of kinds.
+-- The template of each node: the one table of kinds.
 use Rattle.std.specs.Prelude.{ℕ, List, length}
 use Rattle.p3l_skel.specs.declared.tree.Form.{Form}
 use Rattle.p3l_skel.specs.declared.tree.Form.TheVariants as form
@@ -6,7 +6,7 @@ use Rattle.p3l_skel.specs.declared.tree.Tree.{Tree}
 use Rattle.p3l_skel.specs.Counts.{count_of}
 use Rattle.p3l_skel.specs.Tree.{node_at}
 use Rattle.p3l_template.specs.Kind.{Kind}
-use Rattle.p3l_template.specs.Shape.{Shape}
+use Rattle.p3l_template.specs.Shape.{Blueprint}
 use Rattle.p3l_link.specs.Node.{kind_of}
 use Rattle.p3l_link.specs.declared.node.NodeTemplate.{NodeTemplate}
 use Rattle.p3l_link.specs.declared.node.NodeTemplate.TheVariants.{Run, Pipe, Farm, Map, Reduce, Loop}
@@ -26,7 +26,7 @@ template_row (form.Loop turns tokens) k parts n = Loop (record { node = k; token
 abbrev pub template_at : Tree → (ℕ → ℕ) → ℕ → NodeTemplate
 template_at tree count k = template_row (node_at tree k).form k (length (node_at tree k).parts) (count k)
 
--- what is said of it by its kind
+-- the kind of a template by its form
 unfoldable pub kind_row : Form → (k parts n : ℕ) → Kind
 kind_row f k parts n = kind_of (template_row f k parts n)
 
@@ -34,12 +34,12 @@ unfoldable pub kind_at : Tree → (ℕ → ℕ) → ℕ → Kind
 kind_at tree count k = kind_row (node_at tree k).form k (length (node_at tree k).parts) (count k)
 
 -- its processes and channels
-abbrev pub shape_row : Form → (k parts n : ℕ) → Shape
+abbrev pub shape_row : Form → (k parts n : ℕ) → Blueprint
 shape_row f k parts n = (kind_row f k parts n).shape
 
-abbrev pub shape_at : Tree → (ℕ → ℕ) → ℕ → Shape
+abbrev pub shape_at : Tree → (ℕ → ℕ) → ℕ → Blueprint
 shape_at tree count k = (kind_at tree count k).shape
 
 -- the same under the counts of a tree
-abbrev pub shape_of : Tree → List ℕ → ℕ → Shape
+abbrev pub shape_of : Tree → List ℕ → ℕ → Blueprint
 shape_of tree counts k = shape_at tree (count_of tree counts) k

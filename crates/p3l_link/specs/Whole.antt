@@ -1,7 +1,7 @@
 -- A whole net between its source and its sink, seen through the part between them.
 use Rattle.std.specs.Prelude.{ℕ, ℤ, ◌+◌, ◌*◌, Bool, true, ◌&&◌, nat_eq, List, [], ◌∷◌, length}
 use Rattle.p3l_skel.specs.Tree.{node_at}
-use Rattle.p3l_firing.specs.Carried.{Carry}
+use Rattle.p3l_firing.specs.NetInvariants.{Invariants}
 use Rattle.p3l_firing.specs.State.{State}
 use Rattle.p3l_firing.specs.Token.{bodies}
 use Rattle.p3l_firing.specs.declared.net.Net.{Net}
@@ -20,18 +20,18 @@ unfoldable pub owed_round : Part → State → ℕ
 owed_round P s =
     P.owed s + ((P.firings + 1) * length (s.tokens P.input) + (length (P.pending s) + length (s.tokens P.output)))
 
--- what the tokens round a part come to, where the items that are not yet sent are to have n words
-abbrev pub carry_round : ℕ → Part → Carry
-carry_round n P =
+-- the tokens in and round a part, if the items that are not yet sent are to have n words
+abbrev pub invariants_round : ℕ → Part → Invariants
+invariants_round n P =
     record {
       orderly = λ s. P.orderly s && all_long n s.unsent;
       to_come = λ s. bodies (line P s);
       owed = owed_round P;
     }
 
--- what the tokens of a linked net come to
-abbrev pub root_carry : Units → List ℕ → Carry
-root_carry units counts = carry_round (node_at units.tree 0).ins (root_part units counts)
+-- the tokens of a linked net
+abbrev pub root_invariants : Units → List ℕ → Invariants
+root_invariants units counts = invariants_round (node_at units.tree 0).ins (root_part units counts)
 
 -- the number of tokens in a net: in its channels, credits too, and held by its processes
 unfoldable pub tokens_in : Net → State → ℕ

@@ -1,6 +1,6 @@
 // Laws of all linked nets: each is the contract of a function that does nothing.
 
-ghost use Rattle.p3l_link.specs.Laws.{EveryFiringKeepsFitting, EveryFiringKeepsTheList, EveryNetIsCarried, EveryNodeDoesWhatItMeans, EveryPlacedNodeIsAPart, EveryRootIsAPart, EveryRunBeginsFitting, EveryRunBeginsOrderly, EveryRunBeginsTheMeaning, EveryWayKeepsTheList, FiringsAreBounded, OwedIsBoundedByTokens, RoundRobinEnds, StuckMeansEmpty, StuckMeansFinished};
+ghost use Rattle.p3l_link.specs.Laws.{EveryFiringKeepsFitting, EveryFiringKeepsTheList, EveryNetHasInvariants, EveryNodeDoesWhatItMeans, EveryPlacedNodeIsAPart, EveryRootIsAPart, EveryRunBeginsFitting, EveryRunBeginsOrderly, EveryRunBeginsTheMeaning, EveryWayKeepsTheList, FiringsAreBounded, OwedIsBoundedByTokens, RoundRobinEnds, StuckMeansEmpty, StuckMeansFinished};
 
 /// A node of a lawful tree that is placed in a net with all that is below it is a lawful part of
 /// that net, whatever else is in it; and it makes of words what the language says, and fires as
@@ -11,10 +11,10 @@ pub fn every_placed_node_is_a_part()
     ensures root { EveryRootIsAPart }
 {}
 
-/// A linked net is carried by its root, so that every law over all picks of a carried net holds of
-/// it.
-pub fn every_linked_net_is_carried()
-    ensures { EveryNetIsCarried }
+/// A linked net has the invariants of its root, so that every law over all picks of such a net
+/// holds of it.
+pub fn every_linked_net_has_invariants()
+    ensures { EveryNetHasInvariants }
 {}
 
 /// A run begins orderly, and every firing keeps the order and the whole list of what was emitted
@@ -42,8 +42,9 @@ pub fn stuck_means_finished()
     ensures ends { RoundRobinEnds }
 {}
 
-/// The firings of a run, and those that its tokens can still need, are at most the stated number for
-/// each item sent; and the outstanding firings are at most that number for each token in the net.
+/// The firings of a run, and those that its tokens can still need, are at most the stated number
+/// for each item sent; and the outstanding firings are at most that number for each token in the
+/// net.
 pub fn firings_are_bounded()
     ensures run { FiringsAreBounded }
     ensures tokens { OwedIsBoundedByTokens }

@@ -6,14 +6,12 @@ ghost use Rattle.p3l_link.specs.NodeLaw.{kind_counted, kind_found, kind_lawful, 
 
 use p3l_base::{List, NoMemory};
 use p3l_farm::FarmTemplate;
-use p3l_firing::Token;
+use p3l_firing::{Shot, Token};
 use p3l_loop::LoopTemplate;
 use p3l_map::MapTemplate;
 use p3l_reduce::ReduceTemplate;
 use p3l_skel::Tree;
-use p3l_template::{
-    Builder, Kind, PipeTemplate, Place, Ports, RunTemplate, Seat, Snapshot, Template, Width,
-};
+use p3l_template::{Builder, Kind, PipeTemplate, Ports, RunTemplate, Site, Slot, Template, Width};
 use std::alloc::Global;
 
 /// The template of a node, one variant a kind: what is asked of it, its kind answers.
@@ -87,14 +85,14 @@ impl Kind for NodeTemplate {
         }
     }
 
-    fn seats(&self, alloc: Global, place: &Place) -> Result<List<Seat>, NoMemory> {
+    fn slots(&self, alloc: Global, place: &Site) -> Result<List<Slot>, NoMemory> {
         match self {
-            NodeTemplate::Run(it) => it.seats(alloc, place),
-            NodeTemplate::Pipe(it) => it.seats(alloc, place),
-            NodeTemplate::Farm(it) => it.seats(alloc, place),
-            NodeTemplate::Map(it) => it.seats(alloc, place),
-            NodeTemplate::Reduce(it) => it.seats(alloc, place),
-            NodeTemplate::Loop(it) => it.seats(alloc, place),
+            NodeTemplate::Run(it) => it.slots(alloc, place),
+            NodeTemplate::Pipe(it) => it.slots(alloc, place),
+            NodeTemplate::Farm(it) => it.slots(alloc, place),
+            NodeTemplate::Map(it) => it.slots(alloc, place),
+            NodeTemplate::Reduce(it) => it.slots(alloc, place),
+            NodeTemplate::Loop(it) => it.slots(alloc, place),
         }
     }
 
@@ -141,17 +139,17 @@ impl Kind for NodeTemplate {
         &self,
         alloc: Global,
         tree: &Tree,
-        snapshot: &Snapshot,
-        place: &Place,
+        shot: &Shot,
+        place: &Site,
         inner: &[List<Token>],
     ) -> Result<Option<List<Token>>, NoMemory> {
         match self {
-            NodeTemplate::Run(it) => it.pending(alloc, tree, snapshot, place, inner),
-            NodeTemplate::Pipe(it) => it.pending(alloc, tree, snapshot, place, inner),
-            NodeTemplate::Farm(it) => it.pending(alloc, tree, snapshot, place, inner),
-            NodeTemplate::Map(it) => it.pending(alloc, tree, snapshot, place, inner),
-            NodeTemplate::Reduce(it) => it.pending(alloc, tree, snapshot, place, inner),
-            NodeTemplate::Loop(it) => it.pending(alloc, tree, snapshot, place, inner),
+            NodeTemplate::Run(it) => it.pending(alloc, tree, shot, place, inner),
+            NodeTemplate::Pipe(it) => it.pending(alloc, tree, shot, place, inner),
+            NodeTemplate::Farm(it) => it.pending(alloc, tree, shot, place, inner),
+            NodeTemplate::Map(it) => it.pending(alloc, tree, shot, place, inner),
+            NodeTemplate::Reduce(it) => it.pending(alloc, tree, shot, place, inner),
+            NodeTemplate::Loop(it) => it.pending(alloc, tree, shot, place, inner),
         }
     }
 

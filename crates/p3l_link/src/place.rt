@@ -11,15 +11,15 @@ ghost use Rattle.p3l_link.specs.Net.{HasRoom, node_piece, with_piece};
 use crate::table::{part_of, template_of};
 use p3l_base::NoMemory;
 use p3l_skel::{Counts, Tree};
-use p3l_template::{Builder, Kind, Place, Ports, Template};
+use p3l_template::{Builder, Kind, Ports, Site, Template};
 use std::alloc::Global;
 
 /// The place between two channels, after what is built so far.
-fn place_after(builder: &Builder, at: &Ports) -> Place
+fn place_after(builder: &Builder, at: &Ports) -> Site
     requires { (length builder.now.procs ≤ 1048576) × (length builder.now.chans ≤ 1048576) }
     ensures { result ≡ base_of at.now builder.now }
 {
-    Place {
+    Site {
         input: at.input,
         output: at.output,
         proc: builder.process_count() as u32,
@@ -47,13 +47,13 @@ pub(crate) fn place_node(
         (node_piece tree.now counts.now.list cap levels number (base_of at.now builder.old))) }
 {
     let template = template_of(tree, counts, number);
-    let seats = template.seats(alloc, &place_after(builder, at))?;
+    let slots = template.slots(alloc, &place_after(builder, at))?;
     let _ports = template.place(alloc, builder, at, cap)?;
-    for seat in seats.as_slice() {
-        let part = part_of(tree, number, seat.part);
+    for slot in slots.as_slice() {
+        let part = part_of(tree, number, slot.part);
         let inner = Ports {
-            input: seat.input,
-            output: seat.output,
+            input: slot.input,
+            output: slot.output,
         };
         place_node(alloc, tree, counts, levels - 1, part, builder, &inner, cap)?;
     }

@@ -27,7 +27,7 @@ subtree_ends zero tree k next is = absurd is
 subtree_ends (suc d) tree k next is =
     ends (IsSubtree d tree) (length tree.nodes) (subtree_ends d tree) (node_at tree k).parts (k + 1) next is.1 (omega (arith, is.0))
 
--- how many there are, and where they are
+-- the subtrees begin below the limit, and are no more than the nodes from `from` to next
 side_by_side : (Is : ℕ → ℕ → Type 0) (limit : ℕ) → limit < 2 ^ 32 → ((p next : ℕ) → Is p next → (p < next) × (p < limit)) → (ps : List ℕ) (from next : ℕ)
     → AreSubtrees Is ps from next → (list_all (u32_below limit).fits ps ≡ true) × (length ps + from ≤ next)
 side_by_side Is limit small each [] from next are = (refl, omega (arith, are))

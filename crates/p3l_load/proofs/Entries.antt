@@ -1,4 +1,4 @@
--- What the entries of a program come to: modules with names, and a body for each `seq` module.
+-- Results of the entries of a program: modules with names, and a body for each `seq` module.
 use Rattle.std.proofs.Common.{◌≡◌, ℕ, ℤ, ◌+◌, Bool, cond, List, [], ◌∷◌, ◌++◌, length, Option, Some, None, Result, Ok, refl, sym, ap, ◌∙◌, subst, arith, length-append}
 use Rattle.std.specs.List.{All, AllByRecursion}
 use Rattle.std.proofs.lemmas.List.Elements.{All-from_recursion}
@@ -70,7 +70,7 @@ bodies_more seqs kinds.Map constants home m seq e = none_more seqs seq e
 bodies_more seqs kinds.Reduce constants home m seq e = none_more seqs seq e
 bodies_more seqs kinds.Loop constants home m seq e = none_more seqs seq e
 
--- what a module is defined with has its name, its kind and some rescue number or none
+-- a module's definition has its name, its kind and some rescue number or none
 record HasInfoOf (m : ModuleTree) (d : Defined) : Type 0 where
   rescue : Option ℤ
   info_is : info_of m rescue ≡ d.info

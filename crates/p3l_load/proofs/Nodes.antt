@@ -17,7 +17,7 @@ use Rattle.p3l_skel.specs.Lawful.{HasKind, HasLawfulRescue, may_rescue, HasOnePa
 use Rattle.p3l_skel.specs.Tree.{node_at, no_node}
 use Rattle.p3l_skel.proofs.Depth.{IsSubtree-grows, lawful_at}
 use Rattle.p3l_format.specs.Format.{as_form, pair, within, counted, coded, nothing, tagged}
-use Rattle.p3l_format.specs.Numbers.{number, is_i64, i64_format, u8_format, u8_in, u32_in, u32_below, block, one_of}
+use Rattle.p3l_format.specs.Numbers.{is_i64, i64_format, u8_format, u8_in, u32_in, u32_below, block, one_of}
 use Rattle.p3l_format.specs.laws.Parts.{both_true}
 use Rattle.p3l_tree_format.specs.Slice.{cut_format}
 use Rattle.p3l_tree_format.specs.Module.{is_name, kind_format, name_format, module_format}
@@ -30,7 +30,7 @@ use Rattle.p3l_load.proofs.Ranges.{first_of, after_first, fits_below, fits_byte,
 use Rattle.p3l_load.proofs.Slices.{cut_fits}
 use Rattle.p3l_load.proofs.Below.{count_range, parts_fit}
 
--- what an item is read as past the end doesn't matter before it
+-- the default for an item past the end doesn't matter before it
 same_at : (xs : List Node) (k : ℕ) (d e : Node) → k < length xs → get_or xs k d ≡ get_or xs k e
 same_at [] k d e there = absurd (omega arith)
 same_at (x ∷ xs) zero d e there = refl

@@ -1,4 +1,4 @@
--- What a node places has small segments, and channels in their ranges.
+-- The piece of a node has small segments, and channels in their ranges.
 use Rattle.std.proofs.Common.{◌≡◌, ℕ, zero, suc, ◌+◌, ◌-◌, ◌/◌, ◌*◌, ◌<◌, ◌≤◌, ◌^◌, ◌∙◌, ⊎_elim, true, leb, List, [], ◌∷◌, ◌++◌, length, replicate, refl, sym, subst, arith}
 use Rattle.std.specs.Prelude.{Bool}
 use Rattle.std.specs.List.{list_all}
@@ -20,7 +20,7 @@ use Rattle.p3l_firing.specs.Segments.{halved, level_of, segment_lengths}
 use Rattle.p3l_format.specs.Format.{as_form, pair}
 use Rattle.p3l_format.specs.Numbers.{u32_in}
 use Rattle.p3l_format.specs.laws.Parts.{both_true, first_true, second_true}
-use Rattle.p3l_template.specs.Shape.{Base, Seat, Shape, empty_chan}
+use Rattle.p3l_template.specs.Shape.{Base, Slot, Blueprint, empty_chan}
 use Rattle.p3l_reduce.specs.Reduce.{fold_procs, join_procs, reduce_shape}
 use Rattle.p3l_link.specs.Net.{Piece, base_at, end_net, inner_pieces, linked_net, piece_of, root_base, root_piece}
 use Rattle.p3l_link.specs.Shape.{kind_at, kind_row, shape_at, shape_row}
@@ -88,7 +88,7 @@ joins_small node output t q zero = refl
 joins_small node output t q (suc n) = joins_small node output t (suc q) n
 
 module _ (cap : ℕ) (some : 1 ≤ cap) (few : cap ≤ 1024) where
-  abbrev IsFineShape : Shape → Base → Type 0
+  abbrev IsFineShape : Blueprint → Base → Type 0
   IsFineShape shape base = IsFine (shape.procs base) (shape.laid cap base)
 
   empties : (n : ℕ) → list_all chan_format.fits (replicate n (empty_chan cap)) ≡ true
@@ -124,15 +124,15 @@ module _ (cap : ℕ) (some : 1 ≤ cap) (few : cap ≤ 1024) where
             (both_true (chan_format.fits (record { cap = tokens; credits = tokens })) _ (chan_fits tokens tokens has.0 has.1 (omega arith)) refl)));
       }
 
-  inner_fine : (f : ℕ → Base → Piece) (seats : List Seat) (p c : ℕ) → ((v : ℕ) (b : Base) → IsFine (f v b).procs (f v b).chans)
-      → IsFine (inner_pieces f seats p c).procs (inner_pieces f seats p c).chans
+  inner_fine : (f : ℕ → Base → Piece) (slots : List Slot) (p c : ℕ) → ((v : ℕ) (b : Base) → IsFine (f v b).procs (f v b).chans)
+      → IsFine (inner_pieces f slots p c).procs (inner_pieces f slots p c).chans
   unfolding inner_pieces
   inner_fine f [] p c each = record { small = refl; fits = refl }
-  inner_fine f (seat ∷ seats) p c each =
-      let here : Piece = f seat.part (base_at seat p c) in
-      let rest : Piece = inner_pieces f seats (p + length here.procs) (c + length here.chans) in
-      fine_more here.procs rest.procs here.chans rest.chans (each seat.part (base_at seat p c))
-      (inner_fine f seats (p + length here.procs) (c + length here.chans) each)
+  inner_fine f (slot ∷ slots) p c each =
+      let here : Piece = f slot.part (base_at slot p c) in
+      let rest : Piece = inner_pieces f slots (p + length here.procs) (c + length here.chans) in
+      fine_more here.procs rest.procs here.chans rest.chans (each slot.part (base_at slot p c))
+      (inner_fine f slots (p + length here.procs) (c + length here.chans) each)
 
   piece_fine : (tree : Tree) (count : ℕ → ℕ) → ((k : ℕ) → HasSmallNumbers (node_at tree k).form) → (d k : ℕ) (base : Base)
       → IsFine (piece_of tree count cap d k base).procs (piece_of tree count cap d k base).chans
@@ -143,9 +143,9 @@ module _ (cap : ℕ) (some : 1 ≤ cap) (few : cap ≤ 1024) where
       let f : ℕ → Base → Piece = λ v. piece_of tree count cap d (part_at tree k v) in
       let p = base.proc + length (shape.procs base) in
       let c = base.chan + shape.chans base in
-      fine_more (shape.procs base) (inner_pieces f (shape.seats base) p c).procs (shape.laid cap base) (inner_pieces f (shape.seats base) p c).chans
+      fine_more (shape.procs base) (inner_pieces f (shape.slots base) p c).procs (shape.laid cap base) (inner_pieces f (shape.slots base) p c).chans
       (row_fine (node_at tree k).form k (length (node_at tree k).parts) (count k) base (numbers k))
-      (inner_fine f (shape.seats base) p c (λ v b. piece_fine tree count numbers d (part_at tree k v) b))
+      (inner_fine f (shape.slots base) p c (λ v b. piece_fine tree count numbers d (part_at tree k v) b))
 
   linked_fine : (tree : Tree) (counts : List ℕ) → ((k : ℕ) → HasSmallNumbers (node_at tree k).form)
       → IsFine (linked_net tree counts cap).procs (linked_net tree counts cap).chans

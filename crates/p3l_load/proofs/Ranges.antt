@@ -41,7 +41,7 @@ unfolding counted
 list_fits low item xs some few all =
     both_true ((u32_in low 4294967295).fits (length xs)) (list_all item.fits xs) (fits_in low 4294967295 (length xs) some (omega (arith, few)) few) all
 
--- what holds of all but the first
+-- a property of all holds of all but the first
 pub after_first : {A : Type 0} (P : A → Type 0) (x : A) (xs : List A) → All P (x ∷ xs) → All P xs
 after_first P x xs all k d inside = all (suc k) d (omega (arith, inside))
 

@@ -17,7 +17,7 @@ use Rattle.p3l_lexer.specs.declared.mark.Mark.TheVariants as marks
 use Rattle.p3l_lexer.specs.declared.token.Lexeme.TheVariants.{Word, Digits, Sign, Faulty}
 use Rattle.p3l_lexer.specs.declared.token.Piece.{Piece}
 use Rattle.p3l_lexer.specs.declared.token.Piece.TheVariants as pieces
-use Rattle.p3l_lexer.specs.declared.token.Token.{Token}
+use Rattle.p3l_lexer.specs.declared.token.TextToken.{TextToken}
 use Rattle.p3l_lexer.specs.Piece.{piece_of}
 use Rattle.p3l_lexer.specs.Position.{position_after}
 use Rattle.p3l_lexer.specs.Token.{Chunk, IsCutInto, token_at, tokens_after}
@@ -34,7 +34,7 @@ IsNamed _ = Unit {0}
 abbrev AreNamed : List Symbol → Type 0
 AreNamed = AllByRecursion IsNamed
 
-piece_named : (piece : Piece) (text : List ℕ) (at : Pos) (ts : List Token) → piece_of text ≡ Some piece → AreNamed (symbols ts) → AreNamed (symbols (token_at at piece ++ ts))
+piece_named : (piece : Piece) (text : List ℕ) (at : Pos) (ts : List TextToken) → piece_of text ≡ Some piece → AreNamed (symbols ts) → AreNamed (symbols (token_at at piece ++ ts))
 piece_named pieces.Gap text at ts is rest = rest
 piece_named (pieces.Token (Word name)) text at ts is rest = (word_is_name text name is, rest)
 piece_named (pieces.Token (Digits v)) text at ts is rest = (tt, rest)
@@ -160,6 +160,6 @@ passages_named (p ∷ ps) h = let own = passage_named p _ h in (own.0, passages_
 pub entries_named : (bytes : List ℕ) (program : ProgramTree) → Spells bytes program → AllByRecursion HasNameOf program.entries
 entries_named bytes program spells =
     let tokens : AreNamed (symbols spells.tokens) =
-    subst (λ (ts : List Token). AreNamed (symbols ts)) (sym spells.are_tokens.tokens_are) (tokens_named bytes [] spells.are_tokens.chunks spells.are_tokens.cut) in
+    subst (λ (ts : List TextToken). AreNamed (symbols ts)) (sym spells.are_tokens.tokens_are) (tokens_named bytes [] spells.are_tokens.chunks spells.are_tokens.cut) in
     let spelled : AreNamed (spell_text spells.derives.written []) = subst AreNamed spells.derives.spelled tokens in
     subst (AllByRecursion HasNameOf) spells.derives.tree_is (passages_named spells.derives.written spelled)

@@ -1,4 +1,4 @@
--- What is one word of the language is a name.
+-- A text that is one word of the language is a name.
 use Rattle.std.proofs.Common.{◌≡◌, ℕ, pos, ◌^◌, ◌≤◌, Bool, true, false, cond, ◌&&◌, ltb, leb, List, [], ◌∷◌, length, Option, Some, None, refl, sym, subst}
 use Rattle.std.specs.Prelude.{nat_eq, not, is_some, bytes_eq, codes, ◌||◌}
 use Rattle.std.specs.List.{list_all}

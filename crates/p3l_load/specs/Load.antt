@@ -1,4 +1,4 @@
--- Which images are loaded, and why others are refused.
+-- The images that can be loaded, and the reasons for which others are refused.
 use Rattle.std.specs.Prelude.{◌≡◌, ◌≢◌, ◌≤◌, List}
 use Rattle.std.specs.List.{All}
 use Rattle.p3l_skel.specs.Counts.{HasLawfulCounts}
@@ -35,7 +35,7 @@ pub record IsRunnable (image : Image) : Type 0 where
   pub linked : image.net ≡ net_of image
   pub typed : IsTyped image.tree image.net
 
--- what is loaded is the image's own
+-- the loaded parts are the image's own
 abbrev pub loaded_of : Image → Loaded
 loaded_of image = record {
   cap = image.cap;

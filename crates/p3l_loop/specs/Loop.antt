@@ -6,18 +6,18 @@ use Rattle.p3l_skel.specs.declared.tree.Tree.{Tree}
 use Rattle.p3l_skel.specs.Lawful.{HasWords}
 use Rattle.p3l_skel.specs.Tree.{node_at, part_at}
 use Rattle.p3l_firing.specs.State.{State}
-use Rattle.p3l_firing.specs.Token.{over, newest_tag, peeled, later_tags}
+use Rattle.p3l_firing.specs.Token.{over, newest_tag, untagged, later_tags}
 use Rattle.p3l_firing.specs.declared.process.Proc.{Proc}
 use Rattle.p3l_firing.specs.declared.process.ProcKind.TheVariants.{Head, Tail}
 use Rattle.p3l_firing.specs.declared.token.Token.{Token}
 use Rattle.p3l_firing.specs.kinds.Tail.{Turn, Turn.Held, Turn.Again, turn_of}
 use Rattle.p3l_template.specs.Bag.{read, numbered}
 use Rattle.p3l_template.specs.Part.{Part, line, no_part, due}
-use Rattle.p3l_template.specs.Shape.{empty_chan, Shape, Base}
+use Rattle.p3l_template.specs.Shape.{empty_chan, Blueprint, Base}
 use Rattle.p3l_template.specs.Units.{Units}
 use Rattle.p3l_firing.specs.Nodes.{test_of, spent_of, turns_of}
 
--- what a loop does with a value: the meanings of its body and of its condition, its module and its turns
+-- a loop's work on a value: the meanings of its body and of its condition, its spent outcome and its turns
 pub record Laps : Type 0 where
   pub body : Outcome → Outcome
   pub test : Outcome → Outcome
@@ -42,11 +42,11 @@ turns l (suc t) o = ending (turn_of l.test l.spent (nat_lt 0 t) (l.body o)) (tur
 unfoldable pub rounds : Laps → Outcome → Outcome
 rounds l o = after l (l.turns - 1) (l.body o)
 
--- what a token that left the body stands for, with its number and without its turn
+-- the final outcome of a token that left the body, with its number and without its turn
 unfoldable pub settled : Laps → Token → Token
 settled l x = record { tags = later_tags x.tags; body = after l (l.turns - newest_tag x) x.body }
 
--- what the loop shows of a state
+-- the loop's view of a state
 pub record View : Type 0 where
   -- the own states of Head and Tail, and how many credits there are
   pub next : ℕ
@@ -60,7 +60,7 @@ pub record View : Type 0 where
 
 -- the admitted tokens, each as it will be released, but for its number
 unfoldable pub bag : Laps → View → List Token
-bag l v = map peeled v.held ++ map (settled l) v.ring
+bag l v = map untagged v.held ++ map (settled l) v.ring
 
 -- each in turn 1 to turns (to 1 where turns is 0)
 unfoldable pub in_turns : ℕ → List Token → Bool
@@ -137,14 +137,14 @@ loop_over units node tokens base Q =
           + ((Q.firings + 1) * length (s.tokens (base.chan + 2)) + length (s.own (base.proc + 1)).held));
     }
 
-abbrev pub loop_shape : ℕ → ℕ → Shape
+abbrev pub loop_shape : ℕ → ℕ → Blueprint
 loop_shape node tokens =
     record {
       procs = λ base. head_proc node base ∷ (tail_proc node base ∷ []);
       chans = λ base. 4;
       laid = λ cap base. empty_chan cap ∷ (empty_chan cap ∷ (empty_chan tokens ∷ (record { cap = tokens; credits = tokens } ∷ [])));
       inner = 1;
-      seats = λ base. record { input = base.chan; output = base.chan + 1; part = 0 } ∷ [];
+      slots = λ base. record { input = base.chan; output = base.chan + 1; part = 0 } ∷ [];
       meaning = λ units roles.
           rounds (record {
             body = (roles 0).meaning;

@@ -3,7 +3,7 @@ use Rattle.std.specs.Prelude.{ℕ, ◌+◌, Bool, true, ◌&&◌, List, [], ◌�
 use Rattle.p3l_skel.specs.declared.tree.Tree.{Tree}
 use Rattle.p3l_firing.specs.Nodes.{turns_of}
 use Rattle.p3l_firing.specs.State.{State}
-use Rattle.p3l_firing.specs.Token.{peeled}
+use Rattle.p3l_firing.specs.Token.{untagged}
 use Rattle.p3l_firing.specs.declared.token.Token.{Token}
 use Rattle.p3l_template.specs.Bag.{read, numbered}
 use Rattle.p3l_template.specs.Finding.{Finding, Finds, bares, line_of}
@@ -17,7 +17,7 @@ use Rattle.p3l_loop.specs.Loop.{in_turns, loop_shape}
 abbrev pub loop_widths : Tree → (k t : ℕ) → List Width
 loop_widths tree k t = ins_width tree k (t + 2) ∷ (outs_width tree k (t + 2) ∷ (ins_width tree k (t + 2) ∷ (no_width ∷ [])))
 
--- what the loop shows of a state without outcomes
+-- the loop's view of a state, without outcomes
 pub record Seen : Type 0 where
   pub next : ℕ
   pub least : ℕ
@@ -27,7 +27,7 @@ pub record Seen : Type 0 where
 
 -- the admitted tokens, without their turns
 unfoldable pub seen_bag : Seen → List Token
-seen_bag v = map peeled (bares v.held) ++ map peeled (bares v.ring)
+seen_bag v = map untagged (bares v.held) ++ map untagged (bares v.ring)
 
 -- their number, the credits and the turns are as a loop with these turns and tokens keeps them
 unfoldable pub is_counted : (turns tokens : ℕ) → Seen → Bool

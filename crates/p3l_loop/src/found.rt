@@ -4,17 +4,17 @@ ghost use Rattle.std.specs.Prelude.{◌≡◌, ◌+◌, ◌≤◌, length, nat_e
 ghost use Rattle.p3l_base.specs.Memory.{IfGiven};
 ghost use Rattle.p3l_firing.specs.Nodes.{turns_of};
 ghost use Rattle.p3l_template.specs.Finding.{if_orderly};
-ghost use Rattle.p3l_template.specs.Snapshot.{state_of};
+ghost use Rattle.p3l_firing.specs.Shot.{HaveFewTags, state_of};
 ghost use Rattle.p3l_loop.specs.Loop.{in_turns};
 ghost use Rattle.p3l_loop.specs.LoopKind.{found_by, is_counted, seen_bag, seen_of};
 
 use p3l_base::{List, NoMemory};
-use p3l_firing::Token;
+use p3l_firing::{Shot, Token};
 use p3l_skel::{Form, Tree};
-use p3l_template::bare::{add_bare, add_peeled};
+use p3l_template::bare::{add_saved, add_untagged};
 use p3l_template::lines::add_line;
 use p3l_template::numbered::{in_order, lead_to, lie_within};
-use p3l_template::{Place, Ports, Snapshot};
+use p3l_template::{Ports, Site};
 use std::alloc::Global;
 use std::marker::Model;
 
@@ -65,26 +65,27 @@ impl Model for Seen {
 /// Reads the view of a loop at a place of a snapshot, where these tokens are pending in the body.
 pub(crate) fn look_at(
     alloc: Global,
-    snapshot: &Snapshot,
-    place: &Place,
+    shot: &Shot,
+    place: &Site,
     pending: &List<Token>,
 ) -> Result<Seen, NoMemory>
     requires room { (place.now.proc + 2 ≤ 1048576) × (place.now.chan + 4 ≤ 1048576) }
+    requires few { HaveFewTags shot.now }
     ensures { IfGiven result (λ seen. seen
-        ≡ seen_of place.now (state_of snapshot.now) pending.now) }
+        ≡ seen_of place.now (state_of shot.now) pending.now) }
 {
-    let seat = Ports {
+    let slot = Ports {
         input: place.chan,
         output: place.chan + 1,
     };
     let mut ring = List::new(alloc);
-    add_line(alloc, snapshot, &mut ring, &seat, pending)?;
-    add_bare(alloc, &mut ring, snapshot.tokens(place.chan + 2))?;
+    add_line(alloc, shot, &mut ring, &slot, pending)?;
+    add_saved(alloc, &mut ring, shot.tokens(place.chan as usize + 2))?;
     let mut held = List::new(alloc);
-    add_bare(alloc, &mut held, snapshot.held(place.proc + 1))?;
-    let next = snapshot.number(place.proc);
-    let least = snapshot.number(place.proc + 1);
-    let credits = snapshot.tokens(place.chan + 3).len();
+    add_saved(alloc, &mut held, shot.held(place.proc as usize + 1))?;
+    let next = shot.number(place.proc as usize);
+    let least = shot.number(place.proc as usize + 1);
+    let credits = shot.tokens(place.chan as usize + 3).len();
     Ok(Seen {
         next,
         least,
@@ -99,8 +100,8 @@ fn bag_of(alloc: Global, seen: &Seen) -> Result<List<Token>, NoMemory>
     ensures { IfGiven result (λ bag. bag ≡ seen_bag seen.now) }
 {
     let mut bag = List::new(alloc);
-    add_peeled(alloc, &mut bag, seen.held.as_slice())?;
-    add_peeled(alloc, &mut bag, seen.ring.as_slice())?;
+    add_untagged(alloc, &mut bag, seen.held.as_slice())?;
+    add_untagged(alloc, &mut bag, seen.ring.as_slice())?;
     Ok(bag)
 }
 

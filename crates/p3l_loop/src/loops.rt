@@ -11,11 +11,11 @@ ghost use Rattle.p3l_loop.specs.laws.LoopWidths.{loop_tagged};
 
 use crate::found::{by_seen, look_at, turns_of};
 use p3l_base::{List, NoMemory};
-use p3l_firing::{Proc, ProcKind, Token};
+use p3l_firing::{Proc, ProcKind, Shot, Token};
 use p3l_skel::Tree;
 use p3l_template::builder::one_channel;
 use p3l_template::width::{ins_width, outs_width};
-use p3l_template::{Builder, Kind, NO_WIDTH, Place, Ports, Seat, Snapshot, Template, Width};
+use p3l_template::{Builder, Kind, NO_WIDTH, Ports, Site, Slot, Template, Width};
 use std::alloc::Global;
 
 /// A loop with at most `tokens` tokens in it at once, each of which goes round its body until the
@@ -92,14 +92,14 @@ impl Kind for LoopTemplate {
         4
     }
 
-    fn seats(&self, alloc: Global, place: &Place) -> Result<List<Seat>, NoMemory> {
-        let mut seats = List::new(alloc);
-        seats.push(Seat {
+    fn slots(&self, alloc: Global, place: &Site) -> Result<List<Slot>, NoMemory> {
+        let mut slots = List::new(alloc);
+        slots.push(Slot {
             input: place.chan,
             output: place.chan + 1,
             part: 0,
         })?;
-        Ok(seats)
+        Ok(slots)
     }
 
     fn push_widths(
@@ -128,11 +128,11 @@ impl Kind for LoopTemplate {
         &self,
         alloc: Global,
         tree: &Tree,
-        snapshot: &Snapshot,
-        place: &Place,
+        shot: &Shot,
+        place: &Site,
         inner: &[List<Token>],
     ) -> Result<Option<List<Token>>, NoMemory> {
-        let seen = look_at(alloc, snapshot, place, &inner[0])?;
+        let seen = look_at(alloc, shot, place, &inner[0])?;
         by_seen(alloc, turns_of(tree, self.node), self.tokens, &seen)
     }
 

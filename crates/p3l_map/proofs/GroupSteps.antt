@@ -13,7 +13,7 @@ use Rattle.p3l_template.specs.laws.Lists.{none_left}
 use Rattle.p3l_map.specs.Groups.{last_of, begun, made, made_alike}
 use Rattle.p3l_template.specs.laws.BareLaw.{and-true, and-assoc}
 
--- how many pieces are left over
+-- the number of pieces left over
 pub left_length : (n : ℕ) (acc xs : List Token) → length acc < n → length (left n acc xs) ≡ (length acc + length xs) % n
 unfolding left
 left_length n acc [] l =
@@ -71,7 +71,7 @@ module _ (n : ℕ) (xs : List Token) where
   pub begun_more : (x : Token) → begun n (xs ++ x ∷ []) ≡ before ++ (over ++ x ∷ []) ∷ []
   begun_more x = begun_append (x ∷ []) ∙ ap (λ z. before ++ z) (one_more n over x)
 
--- whether all are alike
+-- the groups of two lists are all alike exactly if those of each list are
 pub alike_append : (gs hs : List (List Token)) → all_alike (gs ++ hs) ≡ (all_alike gs && all_alike hs)
 unfolding all_alike
 alike_append [] hs = refl
@@ -105,7 +105,7 @@ begun_less n acc (y ∷ ys) h =
           alike_less acc y (and_parts _ _ (ap all_alike (sym (last_more acc y)) ∙ next)).0
     ]
 
--- what isn't alike so far isn't alike with more
+-- groups that aren't alike so far aren't alike with more pieces
 pub not_alike : (n : ℕ) (xs ys : List Token) → all_alike (begun n xs) ≡ false → all_alike (begun n (xs ++ ys)) ≡ false
 not_alike n xs ys h =
     elim (cases_Bool (all_alike (begun n (xs ++ ys)))) [
@@ -126,7 +126,7 @@ pub all_made : (gs : List (List Token)) (list : List Token) → list ≡ map mad
 unfolding made_alike
 all_made gs list e h = ap Some e ∙ sym (cond-true _ _ _ h)
 
--- what the walk over the pieces keeps: the first piece of each group so far, all of which are alike
+-- the invariant of the walk over the pieces: the first piece of each group so far, all of which are alike
 pub record AreFirsts (n : ℕ) (xs firsts : List Token) : Type 0 where
   pub made : firsts ≡ map made (begun n xs)
   pub alike : all_alike (begun n xs) ≡ true

@@ -8,11 +8,11 @@ use Rattle.p3l_map.specs.Places.{read_by, in_by, total, groups, left}
 use Rattle.p3l_template.specs.Finding.{bare}
 use Rattle.p3l_map.specs.MapKind.{bare_pieces, line_at}
 
--- what is left of line `w`, where `taken` has the number of tokens that were taken from each line
+-- the rest of line `w`, where `taken` has the number of tokens that were taken from each line
 abbrev pub left_at : List (List Token) → List ℕ → ℕ → List Token
 left_at lines taken w = drop (get_or taken w 0) (line_at lines w)
 
--- how many tokens the lines have
+-- the number of tokens in the lines
 abbrev pub count_of : List (List Token) → ℕ
 count_of lines = total (line_at lines) (length lines)
 

@@ -10,7 +10,7 @@ use Rattle.p3l_map.specs.MapShape.{map_shape}
 use Rattle.p3l_template.specs.Finding.{Finding, Finds, bares}
 use Rattle.p3l_template.specs.Kind.{Kind}
 use Rattle.p3l_template.specs.Lines.{lines_by}
-use Rattle.p3l_template.specs.Shape.{Base, fan_seats}
+use Rattle.p3l_template.specs.Shape.{Base, fan_slots}
 use Rattle.p3l_template.specs.Width.{ins_width, outs_width, worker_widths}
 
 -- a map of number elements over n workers, all of whose outcomes are without words
@@ -22,11 +22,11 @@ bare_pieces number n =
 abbrev pub line_at : List (List Token) → ℕ → List Token
 line_at lines w = get_or lines w []
 
--- what a map of n workers shows of a state, without the outcomes and but for what waits and what has left
+-- the view of a map of n workers, without the outcomes and but for what waits and what has left
 abbrev pub seen_of : ℕ → Base → State → List (List Token) → View
 seen_of n base s inner =
     record {
-      lines = line_at (lines_by s (fan_seats base.chan (base.chan + n) n) inner);
+      lines = line_at (lines_by s (fan_slots base.chan (base.chan + n) n) inner);
       held = bares (s.own (base.proc + 1)).held;
       sending = bares (s.own base.proc).held;
       sent = (s.own base.proc).number;

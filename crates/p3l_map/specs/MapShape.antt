@@ -13,7 +13,7 @@ use Rattle.p3l_firing.specs.declared.token.Token.{Token}
 use Rattle.p3l_map.specs.Map.{Pieces, View, mapped, to_come, well_kept}
 use Rattle.p3l_template.specs.Fan.{Fanned, fan_part, fan_shape, first_proc, last_proc}
 use Rattle.p3l_template.specs.Part.{Part, line, no_part, all_orderly, due}
-use Rattle.p3l_template.specs.Shape.{Shape, Role, Base}
+use Rattle.p3l_template.specs.Shape.{Blueprint, Role, Base}
 use Rattle.p3l_template.specs.Sum.{sum_of}
 use Rattle.p3l_template.specs.Units.{Units}
 use Rattle.p3l_firing.specs.Nodes.{last_element, element_of, joined_of}
@@ -42,7 +42,7 @@ view_of base parts s =
       output = s.tokens base.output;
     }
 
--- what a map makes of its n workers
+-- a map of n workers, as the node of a skeleton
 abbrev pub map_fanned : (node n : ℕ) → Fanned
 map_fanned node n =
     record {
@@ -61,7 +61,7 @@ map_fanned node n =
 abbrev pub map_part : Units → ℕ → ℕ → (ℕ → Role) → Base → List Part → Part
 map_part units node n roles base parts = fan_part n (map_fanned node n) units roles base parts
 
-abbrev pub map_shape : (node n : ℕ) → Shape
+abbrev pub map_shape : (node n : ℕ) → Blueprint
 map_shape node n = fan_shape Scatter Gather node n (map_fanned node n)
 
 -- a node of a tree that is a map over n workers

@@ -29,7 +29,7 @@ groups n acc [] = []
 groups n acc (x ∷ xs) =
     cond (nat_eq (suc (length acc)) n) ((acc ++ x ∷ []) ∷ groups n [] xs) (groups n (acc ++ x ∷ []) xs)
 
--- what is left of the last group
+-- the pieces in the last, incomplete group
 unfoldable pub left : ℕ → List Token → List Token → List Token
 left n acc [] = acc
 left n acc (x ∷ xs) = cond (nat_eq (suc (length acc)) n) (left n [] xs) (left n (acc ++ x ∷ []) xs)

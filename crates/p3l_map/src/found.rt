@@ -1,11 +1,13 @@
 // The tokens found in a map: the pieces of all tokens by turns, in groups that each become one
 // token.
 
-ghost use Rattle.std.specs.Prelude.{◌≡◌, ◌++◌, ◌≤◌, ◌<◌, [], ◌∷◌, List, suc, length, replicate, IfOk, OnErr, IsTrue, IsFalse, ℕ};
+ghost use Rattle.std.specs.Prelude.{◌≡◌, ◌++◌, ◌≤◌, ◌<◌, [], ◌∷◌, List, suc, length, map, replicate, IfOk, OnErr, IsTrue, IsFalse, ℕ};
 ghost use Rattle.p3l_base.specs.Memory.{IfGiven, Refused};
+ghost use Rattle.std.specs.List.{All};
 ghost use Rattle.p3l_firing.specs.At.{at};
 ghost use Rattle.p3l_firing.specs.Lists.{first_or, has_first, rest_of};
 ghost use Rattle.p3l_firing.specs.Nodes.{last_element};
+ghost use Rattle.p3l_firing.specs.Shot.{HasFewTags, token_of};
 ghost use Rattle.p3l_firing.specs.Token.{credit, same_tags};
 ghost use Rattle.p3l_firing.specs.declared.token.Token.{Token};
 ghost use Rattle.p3l_map.specs.Groups.{are_in_turn, begun, by_turns, count_of, left_at, made_alike};
@@ -14,9 +16,9 @@ ghost use Rattle.p3l_map.specs.MapKind.{bare_pieces, found_by, line_at};
 ghost use Rattle.p3l_template.specs.Finding.{bare, bares, if_orderly};
 
 use p3l_base::{List, NoMemory};
-use p3l_firing::Token;
+use p3l_firing::{SavedToken, Token};
 use p3l_skel::{Form, Tree};
-use p3l_template::bare::{add_bare, bare};
+use p3l_template::bare::{add_saved, bare};
 use p3l_template::tags::have_same_tags;
 use std::alloc::Global;
 
@@ -160,8 +162,9 @@ fn firsts_of_groups(
 }
 
 // Returns true exactly if one token is being scattered, of which a piece is left to send, or none.
-fn is_scattering(number: u64, sending: &[Token], sent: u64) -> bool
-    ensures { (lines : ℕ) → result ≡ scatter_ok (bare_pieces number lines) sending.now sent }
+fn is_scattering(number: u64, sending: &[SavedToken], sent: u64) -> bool
+    ensures { (lines : ℕ) → result
+        ≡ scatter_ok (bare_pieces number lines) (map token_of sending.now) sent }
 {
     if sending.len() == 0 {
         return true;
@@ -170,8 +173,8 @@ fn is_scattering(number: u64, sending: &[Token], sent: u64) -> bool
 }
 
 // The piece that is sent next, 0 where no token is being scattered.
-fn next_piece(sending: &[Token], sent: u64) -> u64
-    ensures { result ≡ next_piece sending.now sent }
+fn next_piece(sending: &[SavedToken], sent: u64) -> u64
+    ensures { result ≡ next_piece (map token_of sending.now) sent }
 {
     if sending.len() == 0 { 0 } else { sent }
 }
@@ -181,18 +184,20 @@ fn next_piece(sending: &[Token], sent: u64) -> u64
 pub(crate) fn by_lines(
     alloc: Global,
     number: u64,
-    held: &[Token],
+    held: &[SavedToken],
     lines: &[List<Token>],
-    sending: &[Token],
+    sending: &[SavedToken],
     sent: u64,
 ) -> Result<Option<List<Token>>, NoMemory>
     requires number { 1 ≤ number }
     requires lines { 1 ≤ length lines.now }
+    requires held { All HasFewTags held.now }
+    requires sending { All HasFewTags sending.now }
     ensures { IfGiven result (λ pending. pending
         ≡ if_orderly (found_by (bare_pieces number (length lines.now)) (record {
           lines = line_at lines.now;
-          held = held.now;
-          sending = sending.now;
+          held = map token_of held.now;
+          sending = map token_of sending.now;
           sent = sent;
           input = [];
           output = [];
@@ -205,13 +210,13 @@ pub(crate) fn by_lines(
         return Ok(None);
     }
     let mut pieces = List::new(alloc);
-    add_bare(alloc, &mut pieces, held)?;
+    add_saved(alloc, &mut pieces, held)?;
     if !add_by_turns(alloc, &mut pieces, number, lines)? {
         return Ok(None);
     }
     if pieces.len() as u64 % number != next_piece(sending, sent) {
         return Ok(None);
     }
-    add_bare(alloc, &mut pieces, sending)?;
+    add_saved(alloc, &mut pieces, sending)?;
     firsts_of_groups(alloc, number, pieces.as_slice())
 }

@@ -13,11 +13,11 @@ ghost use Rattle.p3l_template.specs.laws.FanTyping.{rows_count};
 
 use crate::found::{by_lines, number_of_pieces};
 use p3l_base::{List, NoMemory};
-use p3l_firing::{ProcKind, Token};
+use p3l_firing::{ProcKind, Shot, Token};
 use p3l_skel::Tree;
 use p3l_template::lines::all_lines;
 use p3l_template::width::{ins_width, outs_width, push_workers};
-use p3l_template::{Builder, Fan, Kind, Place, Ports, Seat, Snapshot, Template, Width};
+use p3l_template::{Builder, Fan, Kind, Ports, Site, Slot, Template, Width};
 use std::alloc::Global;
 
 /// A map: the elements of each token go to the workers by turns, and their results are joined in
@@ -86,8 +86,8 @@ impl Kind for MapTemplate {
         self.fan().chan_count()
     }
 
-    fn seats(&self, alloc: Global, place: &Place) -> Result<List<Seat>, NoMemory> {
-        self.fan().seats(alloc, place.chan)
+    fn slots(&self, alloc: Global, place: &Site) -> Result<List<Slot>, NoMemory> {
+        self.fan().slots(alloc, place.chan)
     }
 
     fn push_widths(
@@ -114,15 +114,15 @@ impl Kind for MapTemplate {
         &self,
         alloc: Global,
         tree: &Tree,
-        snapshot: &Snapshot,
-        place: &Place,
+        shot: &Shot,
+        place: &Site,
         inner: &[List<Token>],
     ) -> Result<Option<List<Token>>, NoMemory> {
-        let lines = all_lines(alloc, snapshot, place.chan, self.workers, inner)?;
+        let lines = all_lines(alloc, shot, place.chan, self.workers, inner)?;
         let number = number_of_pieces(tree, self.node);
-        let held = snapshot.held(place.proc + 1);
-        let sending = snapshot.held(place.proc);
-        let sent = snapshot.number(place.proc);
+        let held = shot.held(place.proc as usize + 1);
+        let sending = shot.held(place.proc as usize);
+        let sent = shot.number(place.proc as usize);
         by_lines(alloc, number, held, lines.as_slice(), sending, sent)
     }
 

@@ -1,4 +1,4 @@
-// How many arguments a call gives, and how many its module takes.
+// The number of arguments that a call gives, and the number that its module takes.
 
 ghost use Rattle.std.specs.Prelude.{OnErr};
 ghost use Rattle.p3l_base.specs.Memory.{Refused};

@@ -13,7 +13,7 @@ pub(crate) fn number_in(line: &str) -> Option<&str> {
     None
 }
 
-/// How many words stand before the first that begins with a capital and follows a number.
+/// Counts the words before the first that begins with a capital and follows a number.
 fn place_of_name(line: &str) -> Option<u64> {
     let mut at: u64 = 0;
     let mut follows_number = false;

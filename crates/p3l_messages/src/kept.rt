@@ -37,7 +37,7 @@ impl<F: Files> Model for KeptFiles<F> {
 }
 
 impl<F: Files> KeptFiles<F> {
-    /// Files of which nothing was read yet.
+    /// Files that were not read yet.
     pub fn new(alloc: Global, files: F) -> KeptFiles<F>
         ensures { result ≡ files }
     {
@@ -124,11 +124,7 @@ impl<F: Files> KeptFiles<F> {
 }
 
 impl<F: Files> Files for KeptFiles<F> {
-    ghost held = { F.held };
-
-    ghost faults = { F.faults };
-
-    ghost failed = { F.failed };
+    ghost observed = { F.observed };
 
     ghost may_want = { F.may_want };
 

@@ -240,7 +240,7 @@ fn put_costs<F: Files>(
     }
 }
 
-/// How many words an item of a program has.
+/// The number of words of an item of a program.
 enum Width {
     Words(u32),
     /// The program is not accepted, or its text was not kept.

@@ -11,7 +11,7 @@ use unicode_width::UnicodeWidthStr;
 /// The most bytes of a line that are shown on each side of the place.
 const MOST_SIDE: usize = 60;
 
-/// How places are shown: with colour or without.
+/// The style in which places are shown: with colour or without.
 #[derive(Clone, Copy, Drop)]
 pub struct Style {
     pub has_color: bool,

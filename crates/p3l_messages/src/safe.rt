@@ -17,7 +17,7 @@ pub fn safe_line(alloc: Global, line: &[u8]) -> Result<Vec<u8>, NoMemory>
     ensures { OnErr result Refused }
 {
     let mut safe = Vec::new(alloc);
-    // how many bytes a terminal would read as one with those before, and how many the word has had
+    // the bytes left that a terminal would read as one, and the count of bytes of the word so far
     let mut steering: usize = 0;
     let mut shown: usize = 0;
     for at in 0..line.len() {
@@ -60,7 +60,7 @@ fn put_byte(safe: &mut Vec<u8>, byte: u8, is_steering: bool) -> Result<(), NoMem
     Ok(())
 }
 
-/// How many of the next bytes would steer a terminal: control characters of both sets, marks of
+/// Counts the next bytes that would steer a terminal: control characters of both sets, marks of
 /// direction, and separators of lines and paragraphs. Tabs and the feed that ends the line do not.
 fn steering_len(rest: &[u8]) -> usize
     ensures { result ≤ length rest.now }

@@ -1,6 +1,7 @@
 // The standard error as a person sees it.
 
 ghost use Rattle.std.specs.Prelude.{◌≡◌, None};
+ghost use Rattle.p3l_io.specs.Change.{stream};
 
 use crate::safe::safe_line;
 use p3l_io::{Failed, Sink};
@@ -53,9 +54,7 @@ impl<E: Sink + Drop> Screen<E> {
 }
 
 impl<E: Sink + Drop> Sink for Screen<E> {
-    ghost taken = { λ _. None };
-
-    ghost faults = { E.faults };
+    ghost observed = { λ sink. stream None (E.observed sink).faults };
 
     fn put(&mut self, piece: &[u8]) -> Result<(), Failed> {
         self.hear(piece);

@@ -30,7 +30,8 @@ impl<'a> Row<'a> {
     }
 }
 
-/// How an argument differs from the one that its call takes there. The name that is found comes first.
+/// The difference between an argument and the one that its call takes there. The name that is found
+/// comes first.
 #[derive(Clone, Copy, Drop)]
 enum Difference<'a> {
     /// Another name comes next.

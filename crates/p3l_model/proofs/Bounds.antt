@@ -1,5 +1,5 @@
 -- Every service time of a lawful tree is far below one that none reaches.
-use Rattle.std.proofs.Common.{◌≡◌, ℕ, zero, suc, ◌+◌, ◌-◌, ◌*◌, ◌==◌, ◌<◌, ◌≤◌, max, min, true, false, List, [], ◌∷◌, length, get_or, refl, sym, ap, ap₂, ◌∙◌, subst, arith, inl, inr, Option, Some, None}
+use Rattle.std.proofs.Common.{◌≡◌, ℕ, zero, suc, ◌+◌, ◌-◌, ◌*◌, ◌==◌, ◌<◌, ◌≤◌, true, false, List, [], ◌∷◌, length, get_or, refl, ap, ap₂, ◌∙◌, arith, inl, inr, Option, Some, None}
 use Rattle.std.specs.Prelude.{IfSome, sum_by, slice_index}
 use Rattle.std.specs.Int.{div_ceil}
 use Rattle.std.proofs.Math.Nat.{mul-le-mul, mul-le-mul_left, mul-le-mul_right}
@@ -12,18 +12,18 @@ use Rattle.p3l_base.specs.Cut.{element_count}
 use Rattle.p3l_skel.specs.declared.tree.Form.{Form}
 use Rattle.p3l_skel.specs.declared.tree.Form.TheVariants.{Seq, Comp, Pipe, Farm, Map, Reduce, Loop}
 use Rattle.p3l_skel.specs.declared.tree.Tree.{Tree}
-use Rattle.p3l_skel.specs.Tree.{node_at, no_node, part_at, nesting}
+use Rattle.p3l_skel.specs.Tree.{node_at, no_node, part_at}
 use Rattle.p3l_skel.specs.Counts.{IsCountInRange, outside_parts, workers_of}
 use Rattle.p3l_skel.specs.Lawful.{AreSubtrees, IsSubtree, IsLawfulForm, IsSize, IsLawfulTree}
 use Rattle.p3l_skel.specs.Numbers.{joined_firings, firings_by, firings_row, most_segments, power_up_to, segments_at, runs_to, runs_row}
-use Rattle.p3l_skel.proofs.Below.{firings_by-step, runs_to-step, runs_to-zero}
+use Rattle.p3l_skel.proofs.Below.{firings_by-step, runs_to-step}
 use Rattle.p3l_skel.proofs.Depth.{lawful_at}
 use Rattle.p3l_skel.proofs.Powers.{power_up_to-power}
 use Rattle.p3l_cost.specs.declared.costs.Costs.{Costs}
 use Rattle.p3l_cost.specs.Costs.{AreCostsOf, IsWithinTurns, most_cost}
-use Rattle.p3l_model.specs.NodeCost.{never, timed, segments_service, span_of, node_cost, node_cost_row}
-use Rattle.p3l_model.specs.Service.{transfer, ticks, ticks_to, ticks_row, expected_turns, unit_service, farm_ends, map_ends, loop_ends, reduce_service, fold_service}
-use Rattle.p3l_model.specs.Costed.{Costed, costed, costed_by, costed_row, stages, slowest, greatest_up_to}
+use Rattle.p3l_model.specs.NodeCost.{never, timed, span_of, node_cost, node_cost_row}
+use Rattle.p3l_model.specs.Service.{transfer, ticks, ticks_to, ticks_row, expected_turns, reduce_service, fold_service}
+use Rattle.p3l_model.specs.Costed.{costed, costed_by, costed_row, stages, slowest, greatest_up_to}
 use Rattle.p3l_model.proofs.Connect.{costed_by-step, some_power}
 use Rattle.p3l_model.proofs.Rules.{le_ceil}
 use Rattle.p3l_model.proofs.TickSums.{ticks_to-zero, ticks_to-step}

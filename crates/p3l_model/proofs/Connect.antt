@@ -1,6 +1,6 @@
 -- A lawful tree and the tree with its costs put in have the same counts, processes and service times.
-use Rattle.std.proofs.Common.{◌≡◌, ℕ, zero, suc, ◌+◌, ◌-◌, ◌*◌, ◌^◌, ◌<◌, ◌≤◌, ◌↔◌, max, min, List, [], ◌∷◌, ◌++◌, length, take, get_or, refl, sym, ap, ap₂, ◌∙◌, subst, arith, inl, inr, Option, Some, None, append-nil}
-use Rattle.std.specs.Prelude.{IfSome, sum_by, slice_index}
+use Rattle.std.proofs.Common.{◌≡◌, ℕ, zero, suc, ◌+◌, ◌-◌, ◌*◌, ◌^◌, ◌<◌, ◌≤◌, ◌↔◌, max, List, [], ◌∷◌, ◌++◌, length, get_or, refl, sym, ◌∙◌, subst, arith, inl, inr, Option, Some, None, append-nil}
+use Rattle.std.specs.Prelude.{IfSome, sum_by}
 use Rattle.std.specs.List.{Contains, flat_map}
 use Rattle.std.specs.Int.{IsPowerOfTwo}
 use Rattle.std.proofs.Math.Nat.{mul-le-mul}
@@ -15,17 +15,17 @@ use Rattle.p3l_skel.specs.declared.tree.Form.TheVariants as form
 use Rattle.p3l_skel.specs.declared.tree.Tree.{Tree}
 use Rattle.p3l_skel.specs.Tree.{node_at, no_node, by_parts}
 use Rattle.p3l_skel.specs.Counts.{own_counted, counted_from, outside_parts, IsCountInRange, IsLawfulCount, workers_of}
-use Rattle.p3l_skel.specs.Lawful.{AreSubtrees, IsSubtree, IsLawfulForm, IsLawfulMap, HasOnePart, HasTwoParts, IsLawfulTree}
-use Rattle.p3l_skel.specs.Numbers.{procs_by, procs_row, inner_sum}
+use Rattle.p3l_skel.specs.Lawful.{AreSubtrees, IsSubtree, IsLawfulForm, IsLawfulTree}
+use Rattle.p3l_skel.specs.Numbers.{procs_by, procs_row}
 use Rattle.p3l_skel.proofs.Below.{by_parts-step, counted_from-step, procs_by-step}
 use Rattle.p3l_skel.proofs.Depth.{lawful_at}
 use Rattle.p3l_cost.specs.declared.costs.Costs.{Costs}
 use Rattle.p3l_cost.specs.Costs.{AreCostsOf, IsTurns}
 use Rattle.p3l_cost.proofs.Turns.{home_inside}
 use Rattle.p3l_model.specs.declared.cost.Sharing.TheVariants.{Items, Elements}
-use Rattle.p3l_model.specs.NodeCost.{timed, span_of, node_cost, node_cost_row}
-use Rattle.p3l_model.specs.Service.{service_by, service_row, inner_greatest, greatest_by, expected_turns, unit_service, farm_ends, map_ends, loop_ends, ticks}
-use Rattle.p3l_model.specs.Costed.{Costed, Empty, Both, IsIn, AreSegments, HasProcess, IsSound, stages, costed_row, costed_by}
+use Rattle.p3l_model.specs.NodeCost.{span_of, node_cost, node_cost_row}
+use Rattle.p3l_model.specs.Service.{service_by, service_row, inner_greatest, greatest_by, expected_turns, unit_service, farm_ends, map_ends, loop_ends}
+use Rattle.p3l_model.specs.Costed.{IsIn, AreSegments, HasProcess, IsSound, stages, costed_row, costed_by}
 use Rattle.p3l_model.proofs.Members.{Contains-nil, Contains-cons_cases}
 use Rattle.p3l_model.proofs.Nested.{from_outside_parts, siblings_end, subtree_end}
 use Rattle.p3l_model.proofs.Matches.{Matches, matches-along, matches-empty, matches-leaf, matches-both, matches-workers, matches-segments, matches-loop}
@@ -106,7 +106,7 @@ record IsCostedRow (tree : Tree) (costs : Costs) (d k : ℕ) (f : Form) (parts :
   has : HasProcess (costed_row (node_cost_row tree costs k f) (costed_by tree costs d) parts)
   sound : IsSound (costed_row (node_cost_row tree costs k f) (costed_by tree costs d) parts)
 
--- what is said of one part alone
+-- the counts of one part alone match
 along_one : (tree : Tree) (costs : Costs) (d p : ℕ) → IsCostedAt tree costs d p → Matches tree (flat_map (counted_from tree d) (p ∷ [])) (costed_by tree costs d p) (λ c. sum_by (procs_by tree c d) (p ∷ [])) (λ c. greatest_by (service_by tree costs c d) (p ∷ []))
 along_one tree costs d p at =
     subst (λ ks. Matches tree ks (costed_by tree costs d p) (λ c. sum_by (procs_by tree c d) (p ∷ [])) (λ c. greatest_by (service_by tree costs c d) (p ∷ []))) (sym (append-nil (counted_from tree d p)))

@@ -1,11 +1,11 @@
 -- More depth than a subtree has changes nothing.
-use Rattle.std.proofs.Common.{◌≡◌, ℕ, zero, suc, ◌+◌, ◌-◌, ◌<◌, ◌≤◌, max, List, [], ◌∷◌, ◌++◌, length, get_or, refl, sym, ap, ap₂, ◌∙◌, subst, arith, inl, inr}
+use Rattle.std.proofs.Common.{◌≡◌, ℕ, zero, suc, ◌+◌, ◌-◌, ◌<◌, ◌≤◌, List, [], ◌∷◌, ◌++◌, length, get_or, refl, sym, ap, ap₂, ◌∙◌, subst, arith, inl, inr}
 use Rattle.std.specs.List.{Contains, flat_map}
 use Rattle.std.proofs.lemmas.List.Elements.{Contains-append_cases}
 use Rattle.p3l_skel.specs.declared.tree.Form.{Form}
 use Rattle.p3l_skel.specs.declared.tree.Form.TheVariants.{Seq, Comp, Pipe, Farm, Map, Reduce, Loop}
 use Rattle.p3l_skel.specs.declared.tree.Tree.{Tree}
-use Rattle.p3l_skel.specs.Tree.{node_at, nesting}
+use Rattle.p3l_skel.specs.Tree.{node_at}
 use Rattle.p3l_skel.specs.Counts.{own_counted, counted_from, outside, outside_from, outside_parts, count_of, counted, HasLawfulCounts}
 use Rattle.p3l_skel.specs.Lawful.{AreSubtrees, IsSubtree, IsLawfulForm, IsLawfulTree}
 use Rattle.p3l_skel.proofs.Below.{counted_from-step, outside_from-zero, outside_from-suc}
@@ -13,7 +13,7 @@ use Rattle.p3l_skel.proofs.Depth.{lawful_at, subtree_at, IsSubtree-deeper}
 use Rattle.p3l_skel.proofs.Subtrees.{IsSubtree-step}
 use Rattle.p3l_cost.specs.declared.costs.Costs.{Costs}
 use Rattle.p3l_cost.specs.Costs.{AreCostsOf}
-use Rattle.p3l_model.specs.NodeCost.{never, node_cost, node_cost_row}
+use Rattle.p3l_model.specs.NodeCost.{node_cost, node_cost_row}
 use Rattle.p3l_model.specs.Costed.{Costed, Both, costed, costed_by, costed_row, stages, slowest}
 use Rattle.p3l_model.specs.Timed.{IsTimed}
 use Rattle.p3l_model.proofs.Bounds.{slowest-root}
@@ -102,7 +102,7 @@ module _ (tree : Tree) (costs : Costs) (lawful : IsLawfulTree tree) where
       let parts = siblings-same tree (costed_by tree costs 6) (costed_by tree costs 5) 5 (λ j n s. costed_by-deep 5 6 j n (omega arith) s) node.parts (k + 1) subtree.0 below.1 in
       costed_by-step tree costs 6 k (omega arith) ∙ sym (row-same k node.form node.ins node.outs node.parts _ _ (lawful_at tree lawful k inside).form parts)
 
--- what comes from the items comes from one of them
+-- a member from the items comes from one of them
 pub flat_map-which : (f : ℕ → List ℕ) (ps : List ℕ) (x : ℕ) → Contains (flat_map f ps) x → (i : ℕ) × (i < length ps) × Contains (f (get_or ps i 0)) x
 flat_map-which f [] x h = absurd (Contains-nil x h)
 flat_map-which f (p ∷ ps) x h =

@@ -1,14 +1,13 @@
 -- Nodes whose numbers are those of a tree with its costs put in, constructor by constructor.
 use Rattle.std.proofs.Common.{◌≡◌, ℕ, zero, suc, ◌+◌, ◌-◌, ◌*◌, ◌==◌, ◌<◌, ◌≤◌, ◌↔◌, max, true, false, List, [], ◌∷◌, ◌++◌, take, drop, length, refl, sym, ap, ap₂, ◌∙◌, subst, arith, inl, inr}
 use Rattle.std.specs.List.{Contains}
-use Rattle.std.specs.Int.{div_ceil}
 use Rattle.std.proofs.Math.Nat.{mul-le-mul_right}
 use Rattle.std.proofs.lemmas.Bool.{cases_lt, cases_eq}
 use Rattle.std.proofs.lemmas.Bool.Decides.{nat_tests}
 use Rattle.std.proofs.lemmas.List.{length-append}
 use Rattle.p3l_skel.specs.declared.tree.Tree.{Tree}
 use Rattle.p3l_skel.specs.Tree.{node_at}
-use Rattle.p3l_skel.specs.Counts.{TakesLawful, IsLawfulCount, count_in}
+use Rattle.p3l_skel.specs.Counts.{TakesLawful, IsLawfulCount}
 use Rattle.p3l_skel.specs.Numbers.{joined_procs}
 use Rattle.p3l_model.specs.declared.cost.Span.{Span}
 use Rattle.p3l_model.specs.declared.cost.Sharing.{Sharing}

@@ -15,7 +15,7 @@ Contains-nil x (k, here, is) = omega arith
 pub Contains-head : (y : ℕ) (ys : List ℕ) → Contains (y ∷ ys) y
 Contains-head y ys = (0, omega arith, refl)
 
--- what comes from the first items comes from all
+-- a member from the first items is one from all
 pub Contains-flat_map_take : (f : ℕ → List ℕ) (n : ℕ) (ys : List ℕ) (x : ℕ) → Contains (flat_map f (take n ys)) x → Contains (flat_map f ys) x
 Contains-flat_map_take f zero ys x h = absurd (Contains-nil x h)
 Contains-flat_map_take f (suc n) [] x h = absurd (Contains-nil x h)
@@ -25,13 +25,13 @@ Contains-flat_map_take f (suc n) (y ∷ ys) x h =
       | inr later ↦ Contains-append_right (f y) (flat_map f ys) x (Contains-flat_map_take f n ys x later)
     ]
 
--- what comes from one of the items comes from all
+-- a member from one of the items is one from all
 pub Contains-flat_map : (f : ℕ → List ℕ) (ys : List ℕ) (i d x : ℕ) → i < length ys → Contains (f (get_or ys i d)) x → Contains (flat_map f ys) x
 Contains-flat_map f [] i d x below h = absurd (omega arith)
 Contains-flat_map f (y ∷ ys) zero d x below h = Contains-append_left (f y) (flat_map f ys) x h
 Contains-flat_map f (y ∷ ys) (suc i) d x below h = Contains-append_right (f y) (flat_map f ys) x (Contains-flat_map f ys i d x (omega arith) h)
 
--- what comes from one item more comes from it or from those before
+-- a member from one item more comes from it or from those before
 pub Contains-flat_map_more : (f : ℕ → List ℕ) (ys : List ℕ) (i d x : ℕ) → i < length ys → Contains (flat_map f (take (i + 1) ys)) x → Contains (flat_map f (take i ys)) x ⊎ Contains (f (get_or ys i d)) x
 Contains-flat_map_more f ys i d x below h =
     let last = get_or ys i d in

@@ -42,7 +42,7 @@ sum_mono f g below P each (p ∷ ps) all =
     let rest = sum_mono f g below P each ps (λ x h. all x (Contains-append_right (below p) (flat_map below ps) x h)) in
     omega (arith, sum_by-cons f p ps, sum_by-cons g p ps)
 
--- where each reduce fires no more often, so does the whole
+-- the whole fires no more often if no reduce does
 pub firings_by-mono : (tree : Tree) (a b : ℕ → ℕ) (d k : ℕ) → ((x : ℕ) → Contains (counted_from tree d k) x → FiresNoMore (node_at tree x).form (a x) (b x)) → firings_by joined_firings tree a d k ≤ firings_by joined_firings tree b d k
 firings_by-mono tree a b zero k more = rw (firings_by-zero joined_firings tree a k, firings_by-zero joined_firings tree b k) (omega arith)
 firings_by-mono tree a b (suc d) k more =

@@ -1,4 +1,4 @@
--- What runs of counts serve, and the rules of the least processes, each way.
+-- Services of runs of counts, and the rules of the least processes, in each direction.
 use Rattle.std.proofs.Common.{◌≡◌, ℕ, zero, suc, ◌+◌, ◌-◌, ◌*◌, ◌/◌, ◌≤◌, ◌<◌, ◌==◌, max, min, List, [], ◌∷◌, ◌++◌, take, drop, length, refl, sym, ap, ap₂, ◌∙◌, subst, arith, inl, inr}
 use Rattle.std.specs.Int.{div_ceil}
 use Rattle.std.proofs.Math.Seq.{take-append_seam, drop-append_seam}
@@ -8,7 +8,6 @@ use Rattle.std.proofs.lemmas.Grind.{div_ceil_times}
 use Rattle.std.proofs.lemmas.Bool.{cases_lt}
 use Rattle.std.proofs.lemmas.Bool.Decides.{nat_tests}
 use Rattle.std.proofs.lemmas.List.{length-take, length-drop}
-use Rattle.p3l_skel.specs.Numbers.{joined_procs}
 use Rattle.p3l_model.specs.declared.cost.Span.{Span}
 use Rattle.p3l_model.specs.declared.cost.Sharing.{Sharing}
 use Rattle.p3l_model.specs.declared.cost.Sharing.TheVariants.{Items, Elements}

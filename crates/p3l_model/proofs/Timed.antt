@@ -1,9 +1,9 @@
 -- Service times that can be counted.
-use Rattle.std.proofs.Common.{◌≡◌, ℕ, zero, suc, ◌+◌, ◌-◌, ◌*◌, ◌==◌, ◌<◌, ◌≤◌, max, true, false, List, [], ◌∷◌, ◌++◌, length, get_or, map, take, drop, refl, sym, ap, ◌∙◌, subst, arith, inl, inr, ⊎_elim}
+use Rattle.std.proofs.Common.{◌≡◌, ℕ, zero, suc, ◌+◌, ◌-◌, ◌*◌, ◌==◌, ◌<◌, ◌≤◌, max, true, false, List, [], ◌∷◌, ◌++◌, length, get_or, map, take, drop, refl, sym, ap, ◌∙◌, arith, inl, inr, ⊎_elim}
 use Rattle.std.specs.Int.{div_ceil}
 use Rattle.std.specs.List.{Contains, flat_map}
 use Rattle.std.proofs.Math.Nat.{mul-le-mul, mul-le-mul_left, mul-le-mul_right}
-use Rattle.std.proofs.lemmas.Bool.{cases_lt, cases_eq}
+use Rattle.std.proofs.lemmas.Bool.{cases_eq}
 use Rattle.std.proofs.lemmas.Bool.Decides.{nat_tests}
 use Rattle.std.proofs.lemmas.List.Elements.{Contains-append_left, Contains-append_right}
 use Rattle.p3l_base.specs.Cut.{element_count}
@@ -12,18 +12,18 @@ use Rattle.p3l_skel.specs.declared.tree.Form.TheVariants.{Seq, Comp, Pipe, Farm,
 use Rattle.p3l_skel.specs.declared.tree.Form.TheVariants as form
 use Rattle.p3l_skel.specs.declared.tree.Tree.{Tree}
 use Rattle.p3l_skel.specs.Tree.{node_at, by_parts}
-use Rattle.p3l_skel.specs.Counts.{IsLawfulCount, TakesLawful, count_in, counted_from, own_counted, outside_parts}
+use Rattle.p3l_skel.specs.Counts.{IsLawfulCount, TakesLawful, counted_from, own_counted, outside_parts}
 use Rattle.p3l_skel.specs.Lawful.{AreSubtrees, IsSubtree, IsLawfulForm, IsLawfulTree}
 use Rattle.p3l_skel.proofs.Below.{counted_from-step}
 use Rattle.p3l_skel.proofs.Depth.{lawful_at}
 use Rattle.p3l_cost.specs.declared.costs.Costs.{Costs}
 use Rattle.p3l_cost.specs.Costs.{AreCostsOf}
 use Rattle.p3l_model.specs.declared.cost.Sharing.TheVariants.{Items, Elements}
-use Rattle.p3l_model.specs.NodeCost.{never, timed, shared, segments_service, node_cost, node_cost_row}
-use Rattle.p3l_model.specs.Service.{service_by, greatest_by, reduce_service, fold_service, expected_turns}
-use Rattle.p3l_model.specs.Costed.{Costed, Empty, Leaf, Both, Workers, Segments, Loop, size, run_service, IsLawfulRun, slowest, greatest_up_to, stages, costed_row, costed_by}
+use Rattle.p3l_model.specs.NodeCost.{never, timed, segments_service, node_cost, node_cost_row}
+use Rattle.p3l_model.specs.Service.{service_by, greatest_by, reduce_service, expected_turns}
+use Rattle.p3l_model.specs.Costed.{Costed, Empty, Leaf, Both, Workers, Segments, Loop, size, run_service, IsLawfulRun, slowest, stages, costed_row, costed_by}
 use Rattle.p3l_model.specs.Timed.{IsTimed}
-use Rattle.p3l_model.proofs.Connect.{IsCostedAt, costed_at, costed_by-step, some_turns, some_power}
+use Rattle.p3l_model.proofs.Connect.{costed_at, costed_by-step, some_turns, some_power}
 use Rattle.p3l_model.proofs.Matches.{greatest-at}
 use Rattle.p3l_model.proofs.Members.{Contains-cons_cases, Contains-nil, Contains-head, Contains-tail, Contains-flat_map}
 use Rattle.p3l_model.proofs.Rules.{le_ceil}

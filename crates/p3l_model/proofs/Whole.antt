@@ -7,7 +7,7 @@ use Rattle.p3l_skel.specs.Numbers.{Fits, procs}
 use Rattle.p3l_cost.specs.declared.costs.Costs.{Costs}
 use Rattle.p3l_cost.specs.Costs.{AreCostsOf}
 use Rattle.p3l_model.specs.Service.{service}
-use Rattle.p3l_model.specs.Costed.{costed, run_procs, run_service, IsLawfulRun}
+use Rattle.p3l_model.specs.Costed.{costed, run_procs, run_service}
 use Rattle.p3l_model.specs.Least.{FitsRun}
 use Rattle.p3l_model.proofs.Bounds.{slowest-root}
 use Rattle.p3l_model.proofs.Connect.{IsCostedAt, costed_at}

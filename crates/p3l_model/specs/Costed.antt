@@ -36,7 +36,7 @@ IsIn r n = (1 ≤ n) × (r.low ≤ n) × (n ≤ r.high)
 abbrev pub AreSegments : Span → ℕ → Type 0
 AreSegments r m = IsPowerOfTwo m × IsIn r m
 
--- how many counts a tree has
+-- the number of counts of a tree
 unfoldable pub size : Costed → ℕ
 size Empty = 0
 size (Leaf s) = 0

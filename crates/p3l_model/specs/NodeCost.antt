@@ -1,4 +1,4 @@
--- What a node costs besides its parts, as the program keeps it: times are counted up to one that no service
+-- The cost of a node without its parts, as the program keeps it: times are counted up to one that no service
 -- time reaches.
 use Rattle.std.specs.Prelude.{ℕ, ◌+◌, ◌*◌, min, Option, Some, None}
 use Rattle.std.specs.Int.{div_ceil}
@@ -50,7 +50,7 @@ span_of (Map w cut) = span_up_to w (min (element_count cut) most_workers)
 span_of (Reduce w len elem) = span_up_to w (min len most_workers)
 span_of (form.Loop turns tokens) = record { low = 0; high = 0 }
 
--- what a node of this form costs
+-- the cost of a node of this form
 abbrev pub node_cost_row : Tree → Costs → ℕ → Form → NodeCost
 node_cost_row tree costs k Seq = Unit (timed (unit_service tree costs k))
 node_cost_row tree costs k Comp = Unit (timed (unit_service tree costs k))
@@ -61,6 +61,6 @@ node_cost_row tree costs k (Reduce w len elem) =
     Segments (span_of (Reduce w len elem)) (record { setup = costs.setup; word = costs.word; len = len; elem = elem; operator = timed (ticks tree costs (part_at tree k 0)) })
 node_cost_row tree costs k (form.Loop turns tokens) = Loop (expected_turns tree costs k) (timed (loop_ends tree costs k))
 
--- what a node costs
+-- the cost of a node
 unfoldable pub node_cost : Tree → Costs → ℕ → NodeCost
 node_cost tree costs k = node_cost_row tree costs k (node_at tree k).form

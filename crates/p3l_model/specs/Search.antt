@@ -1,4 +1,4 @@
--- What a search through the counts of some nodes gives.
+-- Results of a search through the counts of some nodes.
 use Rattle.std.specs.Prelude.{ℕ}
 use Rattle.p3l_model.specs.declared.workers.SearchResult.{SearchResult}
 use Rattle.p3l_model.specs.declared.workers.SearchResult.TheVariants.{Found, After}

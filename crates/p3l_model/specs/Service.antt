@@ -62,11 +62,11 @@ loop_ends tree costs k =
 abbrev pub fold_service : (ℕ → ℕ) → ℕ → ℕ → ℕ → ℕ
 fold_service transfer len elem operator = (len - 1) * operator + (transfer (len * elem) + transfer elem)
 
--- that of the process that splits the whole into m segments, the longest of `long` words
+-- the service time of the process that splits the whole into m segments, the longest of `long` words
 abbrev pub split_service : (ℕ → ℕ) → ℕ → ℕ → ℕ → ℕ
 split_service transfer whole long m = transfer whole + m * transfer long
 
--- that of a process that joins two results
+-- the service time of a process that joins two results
 abbrev pub join_service : (ℕ → ℕ) → ℕ → ℕ → ℕ
 join_service transfer elem operator = operator + 3 * transfer elem
 

@@ -1,4 +1,4 @@
-// How often the processes of a tree fire.
+// Counts of the firings of a tree's processes.
 
 ghost use Rattle.std.specs.Prelude.{◌≡◌, ◌≤◌};
 ghost use Rattle.p3l_skel.specs.Counts.{HasLawfulCounts, count_of};

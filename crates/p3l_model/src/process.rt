@@ -1,4 +1,4 @@
-// How many processes a tree has.
+// The number of processes of a tree.
 
 ghost use Rattle.std.specs.Prelude.{◌≡◌, ◌≤◌, ◌^◌};
 ghost use Rattle.std.specs.List.{Contains};

@@ -1,4 +1,4 @@
-// How many workers the counts of a tree give a node.
+// The number of workers that the counts of a tree give a node.
 
 ghost use Rattle.std.specs.Prelude.{◌≡◌, ℕ, ◌++◌, List, drop};
 ghost use Rattle.p3l_skel.specs.Counts.{own_counted, counted_from, count_in, count_of};

@@ -1,4 +1,4 @@
--- What was loaded can be served: its tree is lawful, and each of its `seq` nodes has a code.
+-- Loaded programs that can be served: the tree is lawful, and each of its `seq` nodes has a code.
 use Rattle.std.specs.List.{All}
 use Rattle.p3l_skel.specs.Lawful.{IsLawfulTree}
 use Rattle.p3l_units.specs.Table.{HasCode}

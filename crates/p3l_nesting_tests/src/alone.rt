@@ -1,24 +1,24 @@
 // Each skeleton alone.
 
 use crate::comparing::compare;
-use crate::sketch::{JOIN, ONE, Row, Shape, Sketch, TEST, TWO};
+use crate::sketch::{JOIN, ONE, Row, Sketch, SketchForm, TEST, TWO};
 use p3l_base::{Dim, Place};
 use p3l_sketch::Array;
 use std::test::Fail;
 
 const SEQ: [Row; 1] = [TWO];
 
-const COMP: [Row; 3] = [(Shape::Comp, 2, 1, &[1, 2]), TWO, JOIN];
+const COMP: [Row; 3] = [(SketchForm::Comp, 2, 1, &[1, 2]), TWO, JOIN];
 
-const PIPE: [Row; 4] = [(Shape::Pipe, 2, 1, &[1, 2, 3]), TWO, TWO, JOIN];
+const PIPE: [Row; 4] = [(SketchForm::Pipe, 2, 1, &[1, 2, 3]), TWO, TWO, JOIN];
 
-const FARM: [Row; 2] = [(Shape::Farm, 2, 2, &[1]), TWO];
+const FARM: [Row; 2] = [(SketchForm::Farm, 2, 2, &[1]), TWO];
 
-const REDUCE: [Row; 2] = [(Shape::Reduce(5, 1), 5, 1, &[1]), JOIN];
+const REDUCE: [Row; 2] = [(SketchForm::Reduce(5, 1), 5, 1, &[1]), JOIN];
 
-const LOOP: [Row; 3] = [(Shape::Loop(12, 3), 2, 2, &[1, 2]), TWO, TEST];
+const LOOP: [Row; 3] = [(SketchForm::Loop(12, 3), 2, 2, &[1, 2]), TWO, TEST];
 
-const LOOP_OF_ONE_TOKEN: [Row; 3] = [(Shape::Loop(12, 1), 2, 2, &[1, 2]), TWO, TEST];
+const LOOP_OF_ONE_TOKEN: [Row; 3] = [(SketchForm::Loop(12, 1), 2, 2, &[1, 2]), TWO, TEST];
 
 const FOUR: Dim = Dim {
     size: 4,
@@ -34,7 +34,7 @@ const PAIRS: [Array; 1] = [(0, &[FOUR, PAIR])];
 
 const SINGLES: [Array; 1] = [(0, &[FOUR])];
 
-const MAP: [Row; 2] = [(Shape::Map(4, 1, &PAIRS, &SINGLES), 8, 4, &[1]), JOIN];
+const MAP: [Row; 2] = [(SketchForm::Map(4, 1, &PAIRS, &SINGLES), 8, 4, &[1]), JOIN];
 
 // A matrix that is turned over.
 const ROW: Dim = Dim {
@@ -51,7 +51,7 @@ const TAKEN: [Array; 1] = [(0, &[COLUMN, ROW])];
 
 const FILLED: [Array; 1] = [(0, &[ROW, COLUMN])];
 
-const MATRIX: [Row; 2] = [(Shape::Map(3, 2, &TAKEN, &FILLED), 6, 6, &[1]), ONE];
+const MATRIX: [Row; 2] = [(SketchForm::Map(3, 2, &TAKEN, &FILLED), 6, 6, &[1]), ONE];
 
 const UNITS: [Sketch; 3] = [
     ("seq", &SEQ, &[]),

@@ -1,30 +1,30 @@
 // The trees and codes of sketches.
 
 use crate::bodies::code_of;
-use crate::sketch::{Row, Shape};
+use crate::sketch::{Row, SketchForm};
 use p3l_base::{List, NoMemory};
 use p3l_code::Code;
 use p3l_skel::Tree;
-use p3l_sketch::{Shape as Bare, add_row, no_nodes};
+use p3l_sketch::{NodeForm as Bare, add_row, no_nodes};
 use std::alloc::Global;
 
 // Returns what a node does, without its body and its rescue number.
-fn bare(shape: Shape) -> Bare {
+fn bare(shape: SketchForm) -> Bare {
     match shape {
-        Shape::Seq(_) | Shape::RescuedSeq(..) => Bare::Seq,
-        Shape::Comp | Shape::RescuedComp(_) => Bare::Comp,
-        Shape::Pipe => Bare::Pipe,
-        Shape::Farm => Bare::Farm(None),
-        Shape::Map(first, second, ins, outs) => Bare::Map(None, first, second, ins, outs),
-        Shape::Reduce(len, elem) => Bare::Reduce(None, len, elem),
-        Shape::Loop(turns, tokens) => Bare::Loop(turns, tokens),
+        SketchForm::Seq(_) | SketchForm::RescuedSeq(..) => Bare::Seq,
+        SketchForm::Comp | SketchForm::RescuedComp(_) => Bare::Comp,
+        SketchForm::Pipe => Bare::Pipe,
+        SketchForm::Farm => Bare::Farm(None),
+        SketchForm::Map(first, second, ins, outs) => Bare::Map(None, first, second, ins, outs),
+        SketchForm::Reduce(len, elem) => Bare::Reduce(None, len, elem),
+        SketchForm::Loop(turns, tokens) => Bare::Loop(turns, tokens),
     }
 }
 
 // The rescue number of the module of a node.
-fn rescue_of(shape: Shape) -> Option<i64> {
+fn rescue_of(shape: SketchForm) -> Option<i64> {
     match shape {
-        Shape::RescuedSeq(_, number) | Shape::RescuedComp(number) => Some(number),
+        SketchForm::RescuedSeq(_, number) | SketchForm::RescuedComp(number) => Some(number),
         _ => None,
     }
 }
@@ -43,7 +43,7 @@ pub fn tree_of(alloc: Global, rows: &[Row]) -> Result<Tree, NoMemory> {
 pub fn codes_of(alloc: Global, rows: &[Row]) -> Result<List<Code>, NoMemory> {
     let mut codes = List::new(alloc);
     for row in rows {
-        if let Shape::Seq(body) | Shape::RescuedSeq(body, _) = row.0 {
+        if let SketchForm::Seq(body) | SketchForm::RescuedSeq(body, _) = row.0 {
             codes.push(code_of(alloc, body)?)?;
         }
     }

@@ -14,7 +14,7 @@ use std::alloc::Global;
 use std::process::Abort;
 use std::test::Fail;
 
-/// How many tokens channels hold.
+/// The capacities of channels.
 const CAPACITIES: [u32; 3] = [1, 2, 4];
 
 /// The seeds are those below.

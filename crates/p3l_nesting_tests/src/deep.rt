@@ -1,16 +1,16 @@
 // Skeletons nested three to six deep.
 
 use crate::comparing::compare;
-use crate::sketch::{FOLDS, JOIN, ONE, ONES, Row, Shape, Sketch, TEST, TWO, TWOS};
+use crate::sketch::{FOLDS, JOIN, ONE, ONES, Row, Sketch, SketchForm, TEST, TWO, TWOS};
 use std::test::Fail;
 
 // A pipe of a farm of a loop of a map of a pipe: the six levels that there may be.
 const SIX: [Row; 9] = [
-    (Shape::Pipe, 2, 1, &[1, 8]),
-    (Shape::Farm, 2, 2, &[2]),
-    (Shape::Loop(12, 2), 2, 2, &[3, 7]),
+    (SketchForm::Pipe, 2, 1, &[1, 8]),
+    (SketchForm::Farm, 2, 2, &[2]),
+    (SketchForm::Loop(12, 2), 2, 2, &[3, 7]),
     (ONES, 2, 2, &[4]),
-    (Shape::Pipe, 1, 1, &[5, 6]),
+    (SketchForm::Pipe, 1, 1, &[5, 6]),
     ONE,
     ONE,
     TEST,
@@ -19,31 +19,31 @@ const SIX: [Row; 9] = [
 // A map of a farm of a pipe of a loop.
 const COPIES: [Row; 7] = [
     (TWOS, 4, 4, &[1]),
-    (Shape::Farm, 2, 2, &[2]),
-    (Shape::Pipe, 2, 2, &[3, 6]),
-    (Shape::Loop(12, 2), 2, 2, &[4, 5]),
+    (SketchForm::Farm, 2, 2, &[2]),
+    (SketchForm::Pipe, 2, 2, &[3, 6]),
+    (SketchForm::Loop(12, 2), 2, 2, &[4, 5]),
     TWO,
     TEST,
     TWO,
 ];
 // A loop of a farm of a map of a farm.
 const WORKERS: [Row; 6] = [
-    (Shape::Loop(12, 4), 2, 2, &[1, 5]),
-    (Shape::Farm, 2, 2, &[2]),
+    (SketchForm::Loop(12, 4), 2, 2, &[1, 5]),
+    (SketchForm::Farm, 2, 2, &[2]),
     (ONES, 2, 2, &[3]),
-    (Shape::Farm, 1, 1, &[4]),
+    (SketchForm::Farm, 1, 1, &[4]),
     ONE,
     TEST,
 ];
 // A pipe of a map of a reduce, and of a farm of a reduce of a comp.
 const SEGMENTS: [Row; 9] = [
-    (Shape::Pipe, 8, 1, &[1, 4]),
+    (SketchForm::Pipe, 8, 1, &[1, 4]),
     (FOLDS, 8, 2, &[2]),
-    (Shape::Reduce(4, 1), 4, 1, &[3]),
+    (SketchForm::Reduce(4, 1), 4, 1, &[3]),
     JOIN,
-    (Shape::Farm, 2, 1, &[5]),
-    (Shape::Reduce(2, 1), 2, 1, &[6]),
-    (Shape::Comp, 2, 1, &[7, 8]),
+    (SketchForm::Farm, 2, 1, &[5]),
+    (SketchForm::Reduce(2, 1), 2, 1, &[6]),
+    (SketchForm::Comp, 2, 1, &[7, 8]),
     TWO,
     JOIN,
 ];

@@ -1,36 +1,40 @@
 // Farms of each other skeleton.
 
 use crate::comparing::compare;
-use crate::sketch::{JOIN, JOINS, Row, Shape, Sketch, TEST, TWO};
+use crate::sketch::{JOIN, JOINS, Row, Sketch, SketchForm, TEST, TWO};
 use std::test::Fail;
 
-const OF_FARM: [Row; 3] = [(Shape::Farm, 2, 2, &[1]), (Shape::Farm, 2, 2, &[2]), TWO];
+const OF_FARM: [Row; 3] = [
+    (SketchForm::Farm, 2, 2, &[1]),
+    (SketchForm::Farm, 2, 2, &[2]),
+    TWO,
+];
 
-const OF_MAP: [Row; 3] = [(Shape::Farm, 4, 2, &[1]), (JOINS, 4, 2, &[2]), JOIN];
+const OF_MAP: [Row; 3] = [(SketchForm::Farm, 4, 2, &[1]), (JOINS, 4, 2, &[2]), JOIN];
 
 const OF_REDUCE: [Row; 3] = [
-    (Shape::Farm, 5, 1, &[1]),
-    (Shape::Reduce(5, 1), 5, 1, &[2]),
+    (SketchForm::Farm, 5, 1, &[1]),
+    (SketchForm::Reduce(5, 1), 5, 1, &[2]),
     JOIN,
 ];
 
 const OF_LOOP: [Row; 4] = [
-    (Shape::Farm, 2, 2, &[1]),
-    (Shape::Loop(12, 2), 2, 2, &[2, 3]),
+    (SketchForm::Farm, 2, 2, &[1]),
+    (SketchForm::Loop(12, 2), 2, 2, &[2, 3]),
     TWO,
     TEST,
 ];
 
 const OF_PIPE: [Row; 4] = [
-    (Shape::Farm, 2, 1, &[1]),
-    (Shape::Pipe, 2, 1, &[2, 3]),
+    (SketchForm::Farm, 2, 1, &[1]),
+    (SketchForm::Pipe, 2, 1, &[2, 3]),
     TWO,
     JOIN,
 ];
 
 const OF_COMP: [Row; 4] = [
-    (Shape::Farm, 2, 1, &[1]),
-    (Shape::Comp, 2, 1, &[2, 3]),
+    (SketchForm::Farm, 2, 1, &[1]),
+    (SketchForm::Comp, 2, 1, &[2, 3]),
     TWO,
     JOIN,
 ];

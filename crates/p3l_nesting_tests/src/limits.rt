@@ -6,7 +6,7 @@ ghost use Rattle.p3l_nesting_tests.specs.Ready.{IsReady};
 use crate::comparing::compare_run;
 use crate::items::{Case, case_of};
 use crate::serving::loaded_of;
-use crate::sketch::{JOIN, ONE, ONES, Row, Shape, Sketch, TWO};
+use crate::sketch::{JOIN, ONE, ONES, Row, Sketch, SketchForm, TWO};
 use p3l_base::{Dim, List, Place};
 use p3l_load::Loaded;
 use p3l_sketch::Array;
@@ -15,13 +15,13 @@ use std::alloc::Global;
 use std::process::Abort;
 use std::test::Fail;
 
-const FARM: [Row; 2] = [(Shape::Farm, 2, 2, &[1]), TWO];
+const FARM: [Row; 2] = [(SketchForm::Farm, 2, 2, &[1]), TWO];
 
 /// The map's two processes have the numbers 1,028 and 1,029.
 const MAP_AFTER_FARM: [Row; 7] = [
-    (Shape::Pipe, 2, 2, &[1, 5]),
-    (Shape::Farm, 2, 2, &[2]),
-    (Shape::Pipe, 2, 2, &[3, 4]),
+    (SketchForm::Pipe, 2, 2, &[1, 5]),
+    (SketchForm::Farm, 2, 2, &[2]),
+    (SketchForm::Pipe, 2, 2, &[3, 4]),
     TWO,
     TWO,
     (ONES, 2, 2, &[6]),
@@ -35,10 +35,13 @@ const PIECE: Dim = Dim {
 
 const PIECES: [Array; 1] = [(0, &[PIECE])];
 
-const MAP: [Row; 2] = [(Shape::Map(512, 1, &PIECES, &PIECES), 512, 512, &[1]), ONE];
+const MAP: [Row; 2] = [
+    (SketchForm::Map(512, 1, &PIECES, &PIECES), 512, 512, &[1]),
+    ONE,
+];
 
 /// The joins are a tree of nine levels.
-const REDUCE: [Row; 2] = [(Shape::Reduce(512, 1), 512, 1, &[1]), JOIN];
+const REDUCE: [Row; 2] = [(SketchForm::Reduce(512, 1), 512, 1, &[1]), JOIN];
 
 const LARGEST: [Sketch; 4] = [
     ("farm of 512 workers", &FARM, &[512]),

@@ -1,16 +1,16 @@
 // Loops whose body is each other skeleton, and whose condition is each that runs in one process.
 
 use crate::comparing::compare;
-use crate::sketch::{ACROSS, JOIN, ONE, ONES, Row, Shape, Sketch, TEST, TWO};
+use crate::sketch::{ACROSS, JOIN, ONE, ONES, Row, Sketch, SketchForm, TEST, TWO};
 use p3l_base::{Dim, Place};
 use p3l_sketch::Array;
 use std::test::Fail;
 
-const TURNING: Shape = Shape::Loop(12, 3);
+const TURNING: SketchForm = SketchForm::Loop(12, 3);
 
 const OF_FARM: [Row; 4] = [
     (TURNING, 2, 2, &[1, 3]),
-    (Shape::Farm, 2, 2, &[2]),
+    (SketchForm::Farm, 2, 2, &[2]),
     TWO,
     TEST,
 ];
@@ -19,7 +19,7 @@ const OF_MAP: [Row; 4] = [(TURNING, 2, 2, &[1, 3]), (ONES, 2, 2, &[2]), ONE, TES
 // A reduce that gives as many words as it takes has one element.
 const OF_REDUCE: [Row; 5] = [
     (TURNING, 2, 2, &[1, 4]),
-    (Shape::Reduce(1, 2), 2, 2, &[2]),
+    (SketchForm::Reduce(1, 2), 2, 2, &[2]),
     (ACROSS, 4, 2, &[3]),
     JOIN,
     TEST,
@@ -27,17 +27,17 @@ const OF_REDUCE: [Row; 5] = [
 
 const OF_LOOP: [Row; 7] = [
     (TURNING, 2, 2, &[1, 4]),
-    (Shape::Loop(12, 2), 2, 2, &[2, 3]),
+    (SketchForm::Loop(12, 2), 2, 2, &[2, 3]),
     TWO,
     TEST,
-    (Shape::Comp, 2, 1, &[5, 6]),
+    (SketchForm::Comp, 2, 1, &[5, 6]),
     TWO,
     TEST,
 ];
 
 const OF_PIPE: [Row; 5] = [
     (TURNING, 2, 2, &[1, 4]),
-    (Shape::Pipe, 2, 2, &[2, 3]),
+    (SketchForm::Pipe, 2, 2, &[2, 3]),
     TWO,
     TWO,
     TEST,
@@ -45,7 +45,7 @@ const OF_PIPE: [Row; 5] = [
 
 const OF_COMP: [Row; 5] = [
     (TURNING, 2, 2, &[1, 4]),
-    (Shape::Comp, 2, 2, &[2, 3]),
+    (SketchForm::Comp, 2, 2, &[2, 3]),
     TWO,
     TWO,
     TEST,
@@ -81,7 +81,7 @@ const FILLED: [Array; 1] = [(0, &[ONLY])];
 const BY_COMP: [Row; 5] = [
     (TURNING, 2, 2, &[1, 2]),
     TWO,
-    (Shape::Comp, 2, 1, &[3, 4]),
+    (SketchForm::Comp, 2, 1, &[3, 4]),
     TWO,
     TEST,
 ];
@@ -89,14 +89,14 @@ const BY_COMP: [Row; 5] = [
 const BY_MAP: [Row; 4] = [
     (TURNING, 2, 2, &[1, 2]),
     TWO,
-    (Shape::Map(1, 1, &TAKEN, &FILLED), 2, 1, &[3]),
+    (SketchForm::Map(1, 1, &TAKEN, &FILLED), 2, 1, &[3]),
     TEST,
 ];
 
 const BY_REDUCE: [Row; 4] = [
     (TURNING, 2, 2, &[1, 2]),
     TWO,
-    (Shape::Reduce(2, 1), 2, 1, &[3]),
+    (SketchForm::Reduce(2, 1), 2, 1, &[3]),
     TEST,
 ];
 

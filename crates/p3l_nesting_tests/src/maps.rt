@@ -1,25 +1,39 @@
 // Maps of each other skeleton.
 
 use crate::comparing::compare;
-use crate::sketch::{FOLDS, HALVES, JOIN, JOINS, Row, Shape, Sketch, TEST, TWO, TWOS};
+use crate::sketch::{FOLDS, HALVES, JOIN, JOINS, Row, Sketch, SketchForm, TEST, TWO, TWOS};
 use std::test::Fail;
 
-const OF_FARM: [Row; 3] = [(TWOS, 4, 4, &[1]), (Shape::Farm, 2, 2, &[2]), TWO];
+const OF_FARM: [Row; 3] = [(TWOS, 4, 4, &[1]), (SketchForm::Farm, 2, 2, &[2]), TWO];
 
 const OF_MAP: [Row; 3] = [(HALVES, 8, 4, &[1]), (JOINS, 4, 2, &[2]), JOIN];
 
-const OF_REDUCE: [Row; 3] = [(FOLDS, 8, 2, &[1]), (Shape::Reduce(4, 1), 4, 1, &[2]), JOIN];
+const OF_REDUCE: [Row; 3] = [
+    (FOLDS, 8, 2, &[1]),
+    (SketchForm::Reduce(4, 1), 4, 1, &[2]),
+    JOIN,
+];
 
 const OF_LOOP: [Row; 4] = [
     (TWOS, 4, 4, &[1]),
-    (Shape::Loop(12, 2), 2, 2, &[2, 3]),
+    (SketchForm::Loop(12, 2), 2, 2, &[2, 3]),
     TWO,
     TEST,
 ];
 
-const OF_PIPE: [Row; 4] = [(JOINS, 4, 2, &[1]), (Shape::Pipe, 2, 1, &[2, 3]), TWO, JOIN];
+const OF_PIPE: [Row; 4] = [
+    (JOINS, 4, 2, &[1]),
+    (SketchForm::Pipe, 2, 1, &[2, 3]),
+    TWO,
+    JOIN,
+];
 
-const OF_COMP: [Row; 4] = [(JOINS, 4, 2, &[1]), (Shape::Comp, 2, 1, &[2, 3]), TWO, JOIN];
+const OF_COMP: [Row; 4] = [
+    (JOINS, 4, 2, &[1]),
+    (SketchForm::Comp, 2, 1, &[2, 3]),
+    TWO,
+    JOIN,
+];
 
 const WITH_WORKERS: [Sketch; 3] = [
     ("map of farm", &OF_FARM, &[2, 3]),

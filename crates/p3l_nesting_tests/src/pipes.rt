@@ -1,51 +1,51 @@
 // Pipes of each other skeleton.
 
 use crate::comparing::compare;
-use crate::sketch::{JOIN, JOINS, ONE, Row, Shape, Sketch, TEST, TWO};
+use crate::sketch::{JOIN, JOINS, ONE, Row, Sketch, SketchForm, TEST, TWO};
 use std::test::Fail;
 
 const OF_FARM: [Row; 5] = [
-    (Shape::Pipe, 2, 1, &[1, 2, 4]),
+    (SketchForm::Pipe, 2, 1, &[1, 2, 4]),
     TWO,
-    (Shape::Farm, 2, 2, &[3]),
+    (SketchForm::Farm, 2, 2, &[3]),
     TWO,
     JOIN,
 ];
 
 const OF_MAP: [Row; 4] = [
-    (Shape::Pipe, 4, 1, &[1, 3]),
+    (SketchForm::Pipe, 4, 1, &[1, 3]),
     (JOINS, 4, 2, &[2]),
     JOIN,
     JOIN,
 ];
 
 const OF_REDUCE: [Row; 4] = [
-    (Shape::Pipe, 4, 1, &[1, 3]),
-    (Shape::Reduce(4, 1), 4, 1, &[2]),
+    (SketchForm::Pipe, 4, 1, &[1, 3]),
+    (SketchForm::Reduce(4, 1), 4, 1, &[2]),
     JOIN,
     ONE,
 ];
 
 const OF_LOOP: [Row; 6] = [
-    (Shape::Pipe, 2, 1, &[1, 2, 5]),
+    (SketchForm::Pipe, 2, 1, &[1, 2, 5]),
     TWO,
-    (Shape::Loop(12, 2), 2, 2, &[3, 4]),
+    (SketchForm::Loop(12, 2), 2, 2, &[3, 4]),
     TWO,
     TEST,
     JOIN,
 ];
 
 const OF_PIPE: [Row; 5] = [
-    (Shape::Pipe, 2, 1, &[1, 4]),
-    (Shape::Pipe, 2, 2, &[2, 3]),
+    (SketchForm::Pipe, 2, 1, &[1, 4]),
+    (SketchForm::Pipe, 2, 2, &[2, 3]),
     TWO,
     TWO,
     JOIN,
 ];
 
 const OF_COMP: [Row; 5] = [
-    (Shape::Pipe, 2, 1, &[1, 4]),
-    (Shape::Comp, 2, 2, &[2, 3]),
+    (SketchForm::Pipe, 2, 1, &[1, 4]),
+    (SketchForm::Comp, 2, 2, &[2, 3]),
     TWO,
     TWO,
     JOIN,

@@ -1,25 +1,25 @@
 // Reduces of each other skeleton that an operator can be: those that run in one process.
 
 use crate::comparing::compare;
-use crate::sketch::{ACROSS, JOIN, Row, Shape, Sketch, TWO};
+use crate::sketch::{ACROSS, JOIN, Row, Sketch, SketchForm, TWO};
 use std::test::Fail;
 
 const OF_COMP: [Row; 4] = [
-    (Shape::Reduce(5, 1), 5, 1, &[1]),
-    (Shape::Comp, 2, 1, &[2, 3]),
+    (SketchForm::Reduce(5, 1), 5, 1, &[1]),
+    (SketchForm::Comp, 2, 1, &[2, 3]),
     TWO,
     JOIN,
 ];
 
 const OF_MAP: [Row; 3] = [
-    (Shape::Reduce(4, 2), 8, 2, &[1]),
+    (SketchForm::Reduce(4, 2), 8, 2, &[1]),
     (ACROSS, 4, 2, &[2]),
     JOIN,
 ];
 
 const OF_REDUCE: [Row; 3] = [
-    (Shape::Reduce(5, 1), 5, 1, &[1]),
-    (Shape::Reduce(2, 1), 2, 1, &[2]),
+    (SketchForm::Reduce(5, 1), 5, 1, &[1]),
+    (SketchForm::Reduce(2, 1), 2, 1, &[2]),
     JOIN,
 ];
 

@@ -1,56 +1,56 @@
 // Skeletons that can't be parts of others: what has processes of its own can't run in one.
 
 use crate::building::tree_of;
-use crate::sketch::{JOIN, Row, Shape, TEST, TWO};
+use crate::sketch::{JOIN, Row, SketchForm, TEST, TWO};
 use p3l_base::NoMemory;
 use p3l_skel::lawful_tree;
 use std::alloc::Global;
 use std::test::Fail;
 
 const FARM_IN_COMP: [Row; 4] = [
-    (Shape::Comp, 2, 1, &[1, 3]),
-    (Shape::Farm, 2, 2, &[2]),
+    (SketchForm::Comp, 2, 1, &[1, 3]),
+    (SketchForm::Farm, 2, 2, &[2]),
     TWO,
     JOIN,
 ];
 
 const PIPE_IN_COMP: [Row; 5] = [
-    (Shape::Comp, 2, 1, &[1, 4]),
-    (Shape::Pipe, 2, 2, &[2, 3]),
+    (SketchForm::Comp, 2, 1, &[1, 4]),
+    (SketchForm::Pipe, 2, 2, &[2, 3]),
     TWO,
     TWO,
     JOIN,
 ];
 
 const LOOP_IN_COMP: [Row; 5] = [
-    (Shape::Comp, 2, 1, &[1, 4]),
-    (Shape::Loop(12, 2), 2, 2, &[2, 3]),
+    (SketchForm::Comp, 2, 1, &[1, 4]),
+    (SketchForm::Loop(12, 2), 2, 2, &[2, 3]),
     TWO,
     TEST,
     JOIN,
 ];
 
 const FARM_IN_REDUCE: [Row; 3] = [
-    (Shape::Reduce(5, 1), 5, 1, &[1]),
-    (Shape::Farm, 2, 1, &[2]),
+    (SketchForm::Reduce(5, 1), 5, 1, &[1]),
+    (SketchForm::Farm, 2, 1, &[2]),
     JOIN,
 ];
 
 const PIPE_IN_REDUCE: [Row; 4] = [
-    (Shape::Reduce(5, 1), 5, 1, &[1]),
-    (Shape::Pipe, 2, 1, &[2, 3]),
+    (SketchForm::Reduce(5, 1), 5, 1, &[1]),
+    (SketchForm::Pipe, 2, 1, &[2, 3]),
     TWO,
     JOIN,
 ];
 
 // Each with the node that has processes, or that has a part with processes, and what that node has to
 // be for the tree to be lawful.
-const REFUSED: [(&[Row], usize, Shape); 5] = [
-    (&FARM_IN_COMP, 0, Shape::Pipe),
-    (&PIPE_IN_COMP, 0, Shape::Pipe),
-    (&LOOP_IN_COMP, 0, Shape::Pipe),
-    (&FARM_IN_REDUCE, 1, Shape::Comp),
-    (&PIPE_IN_REDUCE, 1, Shape::Comp),
+const REFUSED: [(&[Row], usize, SketchForm); 5] = [
+    (&FARM_IN_COMP, 0, SketchForm::Pipe),
+    (&PIPE_IN_COMP, 0, SketchForm::Pipe),
+    (&LOOP_IN_COMP, 0, SketchForm::Pipe),
+    (&FARM_IN_REDUCE, 1, SketchForm::Comp),
+    (&PIPE_IN_REDUCE, 1, SketchForm::Comp),
 ];
 
 // Tells whether the tree of these rows is lawful.

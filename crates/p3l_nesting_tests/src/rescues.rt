@@ -4,7 +4,7 @@ use crate::bodies::Body;
 use crate::comparing::compare;
 use crate::items::{Case, cases_of};
 use crate::serving::loaded_of;
-use crate::sketch::{ONE, Row, Shape, Sketch, TEST};
+use crate::sketch::{ONE, Row, Sketch, SketchForm, TEST};
 use p3l_base::Outcome;
 use p3l_load::Loaded;
 use p3l_sketch::has_words;
@@ -14,24 +14,24 @@ use std::process::Abort;
 use std::test::Fail;
 
 /// Traps on a 0, which its module turns into 9.
-const RESCUED: Row = (Shape::RescuedSeq(Body::One, 9), 1, 1, &[]);
+const RESCUED: Row = (SketchForm::RescuedSeq(Body::One, 9), 1, 1, &[]);
 
-const SEQ_IN_PIPE: [Row; 3] = [(Shape::Pipe, 2, 1, &[1, 2]), TEST, RESCUED];
+const SEQ_IN_PIPE: [Row; 3] = [(SketchForm::Pipe, 2, 1, &[1, 2]), TEST, RESCUED];
 
 const COMP_IN_PIPE: [Row; 5] = [
-    (Shape::Pipe, 2, 1, &[1, 2]),
+    (SketchForm::Pipe, 2, 1, &[1, 2]),
     TEST,
-    (Shape::RescuedComp(9), 1, 1, &[3, 4]),
+    (SketchForm::RescuedComp(9), 1, 1, &[3, 4]),
     ONE,
     ONE,
 ];
 
-const SEQ_IN_COMP: [Row; 4] = [(Shape::Comp, 2, 1, &[1, 2, 3]), TEST, RESCUED, ONE];
+const SEQ_IN_COMP: [Row; 4] = [(SketchForm::Comp, 2, 1, &[1, 2, 3]), TEST, RESCUED, ONE];
 
 const SEQ_IN_FARM: [Row; 4] = [
-    (Shape::Pipe, 2, 1, &[1, 2]),
+    (SketchForm::Pipe, 2, 1, &[1, 2]),
     TEST,
-    (Shape::Farm, 1, 1, &[3]),
+    (SketchForm::Farm, 1, 1, &[3]),
     RESCUED,
 ];
 
@@ -47,8 +47,8 @@ fn rescued_modules_are_as_the_plain_program(rt: HostRuntime) -> Result<(), Fail>
     compare(&rt, rt.alloc(), &RESCUES)
 }
 
-/// What each sketch makes of the items `1 3`, `5 7`, `-1 9` and `11 -5`: its first stage gives 0, 4,
-/// 4 and 0, and the next traps on 0.
+/// Outcomes of each sketch for the items `1 3`, `5 7`, `-1 9` and `11 -5`: its first stage gives 0,
+/// 4, 4 and 0, and the next traps on 0.
 const BY_HAND: [[i64; 4]; 4] = [
     [9, 38, 38, 9],
     [9, 344, 344, 9],

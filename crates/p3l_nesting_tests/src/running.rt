@@ -23,7 +23,7 @@ use std::process::Abort;
 /// More picks than any run of the tests has.
 const MOST_PICKS: u32 = 1_000_000;
 
-/// How many tokens a channel holds, and the seed by which processes are drawn: none for the turns.
+/// The capacity of channels, and the seed by which processes are drawn: none for the turns.
 pub type Setting = (u32, Option<u64>);
 
 // The picker of a seed, or of the turns.

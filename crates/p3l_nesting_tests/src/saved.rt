@@ -1,5 +1,5 @@
-// What is saved of machines of nested trees in the middle of a run is orderly, and no more so where
-// one item more is said to have been sent.
+// Saved states of machines of nested trees in the middle of a run are orderly, and no longer so if
+// they claim one more item sent.
 
 ghost use Rattle.std.specs.Prelude.{◌≡◌};
 ghost use Rattle.p3l_skel.specs.Lawful.{IsLawfulTree};
@@ -7,13 +7,12 @@ ghost use Rattle.p3l_skel.specs.Lawful.{IsLawfulTree};
 use crate::items::cases_of;
 use crate::running::saved_after;
 use crate::serving::loaded_of;
-use crate::sketch::{ONE, ONES, Row, Shape, Sketch, TEST, TWO};
+use crate::sketch::{ONE, ONES, Row, Sketch, SketchForm, TEST, TWO};
 use p3l_base::NoMemory;
 use p3l_load::Loaded;
 use p3l_model::{is_outside, procs};
 use p3l_net::Shot;
 use p3l_orderly::is_orderly;
-use p3l_orderly::saved::have_few_tags;
 use p3l_skel::{Counts, Tree, lawful_counts};
 use p3l_units::UnitTable;
 use std::alloc::Global;
@@ -22,11 +21,11 @@ use std::test::Fail;
 
 // A farm of a pipe of a map and a loop.
 const ROWS: [Row; 7] = [
-    (Shape::Farm, 2, 2, &[1]),
-    (Shape::Pipe, 2, 2, &[2, 4]),
+    (SketchForm::Farm, 2, 2, &[1]),
+    (SketchForm::Pipe, 2, 2, &[2, 4]),
     (ONES, 2, 2, &[3]),
     ONE,
-    (Shape::Loop(12, 2), 2, 2, &[5, 6]),
+    (SketchForm::Loop(12, 2), 2, 2, &[5, 6]),
     TWO,
     TEST,
 ];
@@ -49,7 +48,7 @@ fn is_sound(
     assert!(rt; lawful_counts(tree, counts));
     assert!(rt; is_outside(tree, 0));
     assert!(rt; procs(tree, counts, 0) <= 4096);
-    assert!(rt; have_few_tags(shot));
+    assert!(rt; shot.has_few_tags());
     is_orderly(alloc, tree, counts, shot)
 }
 

@@ -5,9 +5,9 @@ use crate::bodies::Body;
 use p3l_base::{Dim, Place};
 use p3l_sketch::Array;
 
-/// What a node does. No `workers` clause is written: the counts are beside the rows.
+/// Kinds of nodes. No `workers` clause is written: the counts are beside the rows.
 #[derive(Clone, Copy, Drop)]
-pub enum Shape {
+pub enum SketchForm {
     Seq(Body),
     Comp,
     /// A seq and a comp whose modules have this rescue number.
@@ -24,19 +24,19 @@ pub enum Shape {
 }
 
 /// A node: what it does, the words that it takes and gives, and its parts.
-pub type Row = (Shape, u32, u32, &'static [u32]);
+pub type Row = (SketchForm, u32, u32, &'static [u32]);
 
 /// A tree: its name in messages, its nodes, and the numbers of its workers.
 pub type Sketch = (&'static str, &'static [Row], &'static [u32]);
 
 // Nodes of `seq` modules.
-pub const ONE: Row = (Shape::Seq(Body::One), 1, 1, &[]);
+pub const ONE: Row = (SketchForm::Seq(Body::One), 1, 1, &[]);
 
-pub const TWO: Row = (Shape::Seq(Body::Two), 2, 2, &[]);
+pub const TWO: Row = (SketchForm::Seq(Body::Two), 2, 2, &[]);
 
-pub const JOIN: Row = (Shape::Seq(Body::Join), 2, 1, &[]);
+pub const JOIN: Row = (SketchForm::Seq(Body::Join), 2, 1, &[]);
 
-pub const TEST: Row = (Shape::Seq(Body::Test), 2, 1, &[]);
+pub const TEST: Row = (SketchForm::Seq(Body::Test), 2, 1, &[]);
 
 // Sizes of arrays of two rows, and of their rows.
 const OF_TWO: Dim = Dim {
@@ -64,15 +64,15 @@ const COLUMNS: [Array; 1] = [(0, &[ALL_TWO, OF_TWO])];
 
 /// Maps of two elements: of a word each, of two words, of two words for one, of four words for two,
 /// and of four words for one.
-pub const ONES: Shape = Shape::Map(2, 1, &SINGLES, &SINGLES);
+pub const ONES: SketchForm = SketchForm::Map(2, 1, &SINGLES, &SINGLES);
 
-pub const TWOS: Shape = Shape::Map(2, 1, &PAIRS, &PAIRS);
+pub const TWOS: SketchForm = SketchForm::Map(2, 1, &PAIRS, &PAIRS);
 
-pub const JOINS: Shape = Shape::Map(2, 1, &PAIRS, &SINGLES);
+pub const JOINS: SketchForm = SketchForm::Map(2, 1, &PAIRS, &SINGLES);
 
-pub const HALVES: Shape = Shape::Map(2, 1, &FOURS, &PAIRS);
+pub const HALVES: SketchForm = SketchForm::Map(2, 1, &FOURS, &PAIRS);
 
-pub const FOLDS: Shape = Shape::Map(2, 1, &FOURS, &SINGLES);
+pub const FOLDS: SketchForm = SketchForm::Map(2, 1, &FOURS, &SINGLES);
 
 /// A map of two elements, each of a word of the first half and the one beside it in the second.
-pub const ACROSS: Shape = Shape::Map(2, 1, &COLUMNS, &SINGLES);
+pub const ACROSS: SketchForm = SketchForm::Map(2, 1, &COLUMNS, &SINGLES);

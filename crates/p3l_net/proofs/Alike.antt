@@ -1,4 +1,4 @@
--- What the readiness of a process rests on: the first tokens of the channels that it reads, and whether those that it writes have room.
+-- Readiness of a process depends on the first tokens of the channels that it reads, and on room in those that it writes.
 use Rattle.std.proofs.Common.{◌≡◌, ℕ, ◌<◌, ◌&&◌, ◌||◌, Bool, true, false, cond, nat_eq, nat_lt, nat_le, List, [], ◌∷◌, length, Option, Some, None, refl, sym, ap, ap₂, ◌∙◌, arith, leb-false, inl, inr}
 use Rattle.std.specs.Option.{is_some}
 use Rattle.std.proofs.lemmas.Bool.{ltb-true}
@@ -10,7 +10,7 @@ use Rattle.p3l_firing.specs.declared.net.Net.{Net}
 use Rattle.p3l_firing.specs.declared.token.Token.{Token}
 use Rattle.p3l_firing.specs.Lists.{has_first, first_or}
 use Rattle.p3l_firing.specs.Token.{credit, newest_tag}
-use Rattle.p3l_firing.specs.State.{Own, State, has_room}
+use Rattle.p3l_firing.specs.State.{LocalState, State, has_room}
 use Rattle.p3l_firing.specs.Process.{Has, in_of, out_of}
 use Rattle.p3l_firing.specs.Widths.{Widths}
 use Rattle.p3l_firing.specs.Fire.{row_can}
@@ -85,7 +85,7 @@ same_choice s t n (c ∷ cs) same =
     let first = same c (inl refl) in
     ap₂ (λ b o. cond b (Some c) o) (same_due n (s.tokens c) (t.tokens c) first.there first.token) (same_choice s t n cs (λ d h. same d (inr h)))
 
-module _ (net : Net) (s t : State) (o : Own) (q : Proc) (alike : LookAlike net s t q) where
+module _ (net : Net) (s t : State) (o : LocalState) (q : Proc) (alike : LookAlike net s t q) where
   comes : (c : ℕ) → Has q.ins c → has_first (s.tokens c) ≡ has_first (t.tokens c)
   comes c has = (alike.firsts c has).there
 
@@ -160,7 +160,7 @@ module _ (net : Net) (s t : State) (o : Own) (q : Proc) (alike : LookAlike net s
       ap₂ (λ a b. a || b) (ap₂ (λ a b. has_number o.number o.held && (a && b)) (room 0 (omega arith)) (room 2 (omega arith)))
       (ap₂ (λ a b. a && b) (comes (in_of q 0) (first_in q.ins fits.ins)) (room 1 (omega arith)))
 
-  -- what looks alike to a process allows it the same
+  -- states that look alike to a process allow it the same
   pub can_alike : (tree : Tree) (widths : Widths) (k : ProcKind) → q.kind ≡ k → FitsKind k tree widths q → row_can k tree net s o q ≡ row_can k tree net t o q
   unfolding row_can
   can_alike tree widths kinds.Source kind fits = source_alike tree widths fits (alike.item kind)

@@ -1,4 +1,4 @@
--- What is counted rises by one at most at a firing.
+-- Counts rise by one at most at a firing.
 use Rattle.std.proofs.Common.{◌≡◌, ℕ, ◌+◌, ◌≤◌, Bool, true, false, cond, Option, Some, None, slice_get, refl, sym, subst, inl, inr, arith}
 use Rattle.std.proofs.lemmas.Bool.{cases_eq}
 use Rattle.p3l_skel.specs.declared.tree.Tree.{Tree}
@@ -12,8 +12,8 @@ use Rattle.p3l_firing.specs.declared.token.Token.{Token}
 use Rattle.p3l_firing.specs.Fire.{fire, fire_of, row_fire}
 use Rattle.p3l_firing.specs.Nodes.{Leaf}
 use Rattle.p3l_firing.specs.Process.{out_of}
-use Rattle.p3l_firing.specs.State.{Own, State, pop, push, set_own, counted, fresh}
-use Rattle.p3l_firing.specs.Token.{credit, peeled}
+use Rattle.p3l_firing.specs.State.{LocalState, State, pop, push, set_own, counted, fresh}
+use Rattle.p3l_firing.specs.Token.{credit, untagged}
 use Rattle.p3l_firing.specs.kinds.Source as source
 use Rattle.p3l_firing.specs.kinds.Sink as sink
 use Rattle.p3l_firing.specs.kinds.Run as run
@@ -32,22 +32,22 @@ record RoseByOne (s n : State) : Type 0 where
   numbers : (r : ℕ) → (n.own r).number ≤ (s.own r).number + 1
   sent : n.sent ≤ s.sent + 1
 
--- where the processes keep what they kept
+-- no local state has changed
 kept : (s n : State) → n.own ≡ s.own → n.sent ≤ s.sent + 1 → RoseByOne s n
-kept s n same sent = record { numbers = λ r. subst (λ (own : ℕ → Own). (own r).number ≤ (s.own r).number + 1) (sym same) (omega arith); sent = sent }
+kept s n same sent = record { numbers = λ r. subst (λ (own : ℕ → LocalState). (own r).number ≤ (s.own r).number + 1) (sym same) (omega arith); sent = sent }
 
--- where one keeps something else
-written : (s n : State) (p : ℕ) (o : Own) → n.own ≡ s.own → n.sent ≡ s.sent → o.number ≤ (s.own p).number + 1 → RoseByOne s (set_own n p o)
+-- one local state has changed
+written : (s n : State) (p : ℕ) (o : LocalState) → n.own ≡ s.own → n.sent ≡ s.sent → o.number ≤ (s.own p).number + 1 → RoseByOne s (set_own n p o)
 unfolding set_own
 written s n p o same sent less = record {
   numbers = λ r.
       elim (cases_eq r p) [
         | inl e ↦
             subst (λ i. (at n.own p o i).number ≤ (s.own i).number + 1) (sym e)
-            (subst (λ (x : Own). x.number ≤ (s.own p).number + 1) (sym (at-same n.own p o)) less)
+            (subst (λ (x : LocalState). x.number ≤ (s.own p).number + 1) (sym (at-same n.own p o)) less)
         | inr e ↦
-            subst (λ (x : Own). x.number ≤ (s.own r).number + 1) (sym (at-other n.own p o r e))
-            (subst (λ (own : ℕ → Own). (own r).number ≤ (s.own r).number + 1) (sym same) (omega arith))
+            subst (λ (x : LocalState). x.number ≤ (s.own r).number + 1) (sym (at-other n.own p o r e))
+            (subst (λ (own : ℕ → LocalState). (own r).number ≤ (s.own r).number + 1) (sym same) (omega arith))
       ];
   sent = omega (arith, sent);
 }
@@ -56,7 +56,7 @@ either : (b : Bool) (s n m : State) → RoseByOne s n → RoseByOne s m → Rose
 either true s n m h k = h
 either false s n m h k = k
 
-passed : (b : Bool) (o : Own) → (cond b (counted o) fresh).number ≤ o.number + 1
+passed : (b : Bool) (o : LocalState) → (cond b (counted o) fresh).number ≤ o.number + 1
 passed true o = omega arith
 passed false o = omega arith
 
@@ -87,7 +87,7 @@ module _ (s : State) (p : ℕ) (q : Proc) where
   released : RoseByOne s (tail.release s p (s.own p) q)
   unfolding tail.release tail.after_release push
   released =
-      written s (push (push s (out_of q 0) (peeled (peeled (tail.pick_number (s.own p).number (s.own p).held)))) (out_of q 2) credit)
+      written s (push (push s (out_of q 0) (untagged (untagged (tail.pick_number (s.own p).number (s.own p).held)))) (out_of q 2) credit)
       p (tail.after_release (s.own p)) refl refl (omega arith)
 
   module _ (tree : Tree) (leaf : Leaf) (net : Net) where

@@ -47,7 +47,7 @@ among_or_apart (d ∷ cs) c =
 same_first : (xs ys : List Token) → xs ≡ ys → SameFirst xs ys
 same_first xs ys e = record { there = ap has_first e; token = ap (first_or credit) e }
 
--- where two tokens are there, one of which came last, the first was there before
+-- if there are two tokens and one of them came last, the first was there before
 grown_first : (xs ys : List Token) (token : Token) → ys ≡ xs ++ token ∷ [] → 1 < length ys → SameFirst ys xs
 grown_first [] ys token e long = let one : length ys ≡ 1 = ap length e in absurd (omega (arith, one, long))
 grown_first (x ∷ xs) ys token e long = record { there = ap has_first e; token = ap (first_or credit) e }
@@ -196,8 +196,8 @@ looked_first {m = m} {flags = flags} {new = new} {p = p} can e = record {
   right = λ r inside slack. look_right m p flags new can.size true e r inside (λ unlooked. can.others r inside (λ same. false≢true (sym (unlooked same))) slack);
 }
 
--- Where channel c, which process p reads or writes, alone keeps the flags from agreeing, they agree once it was looked at the process at
--- its other end, if that may have become ready
+-- If the flags disagree only at ends of channel c, which process p reads or writes, they agree once the process at its other end was
+-- looked at, if that may have become ready
 module _ {m : Seen} {ends : Ends} {p c : ℕ} {flags new : List Bool} {cs : List ℕ} (sides : HasEnds m.net ends) (agrees : AgreesBut m flags (c ∷ cs)) (known : AgreesAt m new p) where
   looked_once : (w : ℕ) (look : Bool) → new ≡ looked look m w flags → ((r : ℕ) → r ≢ p → (r ≡ w → look ≡ false) → HasSlack m r c) → AgreesBut m new cs
   looked_once w look e slack_at = record {
@@ -269,9 +269,9 @@ module _ (m : Seen) (flags : List Bool) (agrees : AgreesBut m flags []) where
         ∙ sym (none_ready m.tree m.net (state_of m []) r (slice_get_past m.net.procs r past))
   ])
 
-  module _ (calm : m.trapped ≡ false) where
+  module _ (untrapped : m.trapped ≡ false) where
     pub calm_steps : flag_at flags ≡ can_step m
-    calm_steps = same_function (λ r. ap (λ (f : ℕ → Bool). f r) flags_are ∙ ap (λ b. not b && ready_at m r) (sym calm))
+    calm_steps = same_function (λ r. ap (λ (f : ℕ → Bool). f r) flags_are ∙ ap (λ b. not b && ready_at m r) (sym untrapped))
 
     pub next_flags : (from : ℕ) (x : Option ℕ) → x ≡ find (flag_at flags) (in_turn (length flags) from) → x ≡ find (can_step m) (in_turn (length m.net.procs) from)
     next_flags from x e = e ∙ ap₂ (λ (f : ℕ → Bool) n. find f (in_turn n from)) calm_steps agrees.size
@@ -306,7 +306,7 @@ module _ (m : Seen) (trapped : m.trapped ≡ true) where
   pub trapped_count : 0 ≡ length (ready_list m)
   trapped_count = none_filtered (can_step m) trapped_steps (range_with_len 0 (length m.net.procs))
 
--- what the search in turn says
+-- the result of the search in turn
 module _ (m : Seen) (from : ℕ) (there : from < length m.net.procs) (x : Option ℕ) (e : x ≡ find (can_step m) (in_turn (length m.net.procs) from)) where
   parts : x ≡ option_or (find (can_step m) (range_with_len from (length m.net.procs - from))) (find (can_step m) (range_with_len 0 from))
   parts = e ∙ find-append (can_step m) (range_with_len from (length m.net.procs - from)) (range_with_len 0 from)
@@ -331,7 +331,7 @@ module _ (m : Seen) (from : ℕ) (there : from < length m.net.procs) (x : Option
       by (Some p) f = subst (λ o. IfNone o ((q : ℕ) → can_step m q ≡ false)) (sym (parts ∙ ap (λ o. option_or o (find (can_step m) (range_with_len 0 from))) f)) tt
       by None f = subst (λ o. IfNone o ((q : ℕ) → can_step m q ≡ false)) (sym (parts ∙ ap (λ o. option_or o (find (can_step m) (range_with_len 0 from))) f)) (next_none m from there f (find (can_step m) (range_with_len 0 from)) refl)
 
--- where some process can fire, no trap was emitted
+-- no trap was emitted if some process can fire
 pub listed_calm : (m : Seen) (k : ℕ) → k < length (ready_list m) → m.trapped ≡ false
 listed_calm m k h =
     elim (cases_Bool m.trapped) [

@@ -11,7 +11,7 @@ use Rattle.p3l_firing.specs.declared.token.Token.{Token}
 use Rattle.p3l_firing.specs.Token.{bodies}
 
 module _ {X : Type 0} where
-  -- what holds of all holds of one
+  -- a fact on all items holds for each
   pub all_at : (P : X → Type 0) (xs : List X) → AllByRecursion P xs → (k : ℕ) (x : X) → k < length xs → x ≡ get_or xs k x → P x
   all_at P [] all k x inside is = absurd (omega (arith, inside))
   all_at P (y ∷ ys) all zero x inside is = subst P (sym is) all.0

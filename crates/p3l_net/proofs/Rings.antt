@@ -7,8 +7,8 @@ use Rattle.p3l_firing.specs.declared.token.Token.{Token}
 use Rattle.p3l_firing.specs.Lists.{has_first, first_or}
 use Rattle.p3l_firing.specs.Token.{credit}
 use Rattle.p3l_base.specs.declared.outcome.Outcome.{Outcome}
-use Rattle.p3l_net.specs.declared.shot.SavedToken.{SavedToken}
-use Rattle.p3l_net.specs.Shot.{saved_token}
+use Rattle.p3l_firing.specs.declared.shot.SavedToken.{SavedToken}
+use Rattle.p3l_firing.specs.Shot.{saved_token}
 use Rattle.p3l_net.specs.declared.channel.Slot.{Slot}
 use Rattle.p3l_net.specs.declared.channel.Slot.TheVariants.{Plain, Tagged}
 use Rattle.p3l_net.specs.Channel.{Queue}
@@ -131,7 +131,7 @@ pub queue-empty : (slots : Buffer Slot) (tags : Buffer (List ℕ)) (n : ℕ) →
 unfolding tokens_of
 queue-empty slots tags n slots_are tags_are = ap₂ queue_in slots_are tags_are
 
--- what is read of a list at a place
+-- reading a list at a place
 module _ {A : Type 0} where
   pub drop-read : (xs : List A) (k : ℕ) (x : A) → slice_get xs k ≡ Some x → drop k xs ≡ x ∷ drop (suc k) xs
   drop-read [] k x is = cc

@@ -1,5 +1,5 @@
--- What is saved of a machine is what is restored.
-use Rattle.std.proofs.Common.{◌≡◌, ℕ, zero, suc, ◌+◌, ◌^◌, ◌<◌, ◌≤◌, Bool, false, List, [], ◌∷◌, ◌++◌, length, map, take, get_or, slice_get, Some, Result, Ok, Err, refl, sym, ap, ap₂, ◌∙◌, subst, arith}
+-- A machine is restored as it was saved.
+use Rattle.std.proofs.Common.{◌≡◌, ℕ, zero, suc, ◌+◌, ◌^◌, ◌<◌, ◌≤◌, Bool, false, List, [], ◌∷◌, ◌++◌, length, map, take, get_or, slice_get, Some, refl, sym, ap, ap₂, ◌∙◌, subst, arith}
 use Rattle.std.specs.List.{AllByRecursion}
 use Rattle.std.proofs.lemmas.List.{reverse-reverse, length-reverse, length-map, get_or-map as map_there}
 use Rattle.std.proofs.lemmas.List.Elements.{All-from_recursion, recursion_from_All}
@@ -11,17 +11,18 @@ use Rattle.p3l_firing.specs.declared.process.ProcKind.{ProcKind}
 use Rattle.p3l_firing.specs.declared.process.ProcKind.TheVariants as kinds
 use Rattle.p3l_firing.specs.declared.token.Token.{Token}
 use Rattle.p3l_firing.specs.Lists.{rest_of}
-use Rattle.p3l_firing.specs.State.{Own, own_at, fresh, no_chan, chan_at}
+use Rattle.p3l_firing.specs.State.{LocalState, own_at, fresh, no_chan, chan_at}
 use Rattle.p3l_firing.specs.Process.{in_of, out_of}
 use Rattle.p3l_firing.specs.Token.{most_tags}
 use Rattle.p3l_firing.specs.Typed.{FitsOwn, IsFitting}
 use Rattle.p3l_firing.specs.Widths.{Widths, HasWidth, AllFit}
-use Rattle.p3l_net.specs.declared.shot.Own.{Own as SavedOwn}
-use Rattle.p3l_net.specs.declared.shot.SavedToken.{SavedToken}
-use Rattle.p3l_net.specs.declared.shot.Shot.{Shot}
+use Rattle.p3l_firing.specs.declared.shot.Own.{Own as SavedOwn}
+use Rattle.p3l_firing.specs.declared.shot.SavedToken.{SavedToken}
+use Rattle.p3l_firing.specs.declared.shot.Shot.{Shot}
+use Rattle.p3l_firing.specs.Shot.{HasFewTags, IsCountable, own_of, saved_at, saved_own, saved_token, token_of}
 use Rattle.p3l_net.specs.Channel.{Queue, queue_at, tokens_at}
 use Rattle.p3l_net.specs.Machine.{Seen, IsSound, state_of}
-use Rattle.p3l_net.specs.Shot.{saved_token, token_of, saved_own, own_of, saved_queue, queue_of, queues_of, shot_of, restored, saved_at, HasFewTags, IsHeld, Fits, CanRestore, IsCountable}
+use Rattle.p3l_net.specs.Shot.{saved_queue, queue_of, queues_of, shot_of, restored, IsHeld, Fits, CanRestore}
 use Rattle.p3l_net.proofs.Queues.{rooms, caps, queue_count}
 
 -- back from what was saved
@@ -33,10 +34,10 @@ tokens_back : (tokens : List Token) → map token_of (map saved_token tokens) �
 tokens_back [] = refl
 tokens_back (token ∷ tokens) = ap₂ (λ x xs. x ∷ xs) (token_back token) (tokens_back tokens)
 
-own_back : (o : Own) → own_of (saved_own o) ≡ o
+own_back : (o : LocalState) → own_of (saved_own o) ≡ o
 own_back o = ap (λ held. record { number = o.number; held = held }) (tokens_back o.held)
 
-owns_back : (owns : List Own) → map own_of (map saved_own owns) ≡ owns
+owns_back : (owns : List LocalState) → map own_of (map saved_own owns) ≡ owns
 owns_back [] = refl
 owns_back (o ∷ owns) = ap₂ (λ x xs. x ∷ xs) (own_back o) (owns_back owns)
 
@@ -51,13 +52,13 @@ queues_back (chan ∷ chans) [] fit = cc
 queues_back (chan ∷ chans) (queue ∷ queues) fit =
     ap₂ (λ x xs. x ∷ xs) (queue_back chan queue (ap (λ ns. get_or ns 0 0) fit)) (queues_back chans queues (ap (λ (ns : List ℕ). rest_of ns) fit))
 
--- what is restored of what was saved of a sound machine is that machine, in which nothing has fired since
+-- a sound machine that is saved and restored is the same machine, in which nothing has fired since
 pub saved_back : (m : Seen) → IsSound m → m.trapped ≡ false → restored m.tree m.net (shot_of m) ≡ record m { fired = 0 }
 unfolding restored shot_of
-saved_back m sound calm =
-    let with : List Queue → List Own → Bool → Seen = λ queues owns trapped. record { tree = m.tree; net = m.net; queues = queues; owns = owns; inbox = m.inbox; fired = 0; sent = m.sent; emitted = m.emitted; trapped = trapped } in
+saved_back m sound untrapped =
+    let with : List Queue → List LocalState → Bool → Seen = λ queues owns trapped. record { tree = m.tree; net = m.net; queues = queues; owns = owns; inbox = m.inbox; fired = 0; sent = m.sent; emitted = m.emitted; trapped = trapped } in
     ap₂ (λ queues owns. with queues owns false) (queues_back m.net.chans m.queues sound.shaped.rooms) (owns_back m.owns)
-    ∙ ap (with m.queues m.owns) (sym calm)
+    ∙ ap (with m.queues m.owns) (sym untrapped)
 
 -- the queue of a channel that is there
 pub queue-there : (chans : List Chan) (lists : List (List SavedToken)) (c : ℕ) → c < length chans → queue_at (queues_of chans lists) c ≡ queue_of (get_or chans c no_chan) (get_or lists c [])
@@ -155,20 +156,20 @@ fits_held tree net widths few_tags shot fits = record {
       All-from_recursion _ _ (few_held tree widths few_tags stands.0 (get_or shot.owns p d) stands.0.kind fit);
 }
 
--- whether a state fits has nothing to do with what fired
+-- a state fits whatever has fired
 unfired_fits : (m : Seen) (sound : IsSound m) → IsFitting m.tree m.net sound.typed.widths (state_of (record m { fired = 0 }) [])
 unfolding state_of
 unfired_fits m sound = sound.fitting
 
--- what is saved of a sound machine fits
+-- the saved state of a sound machine fits
 pub saved_fits : (m : Seen) → IsSound m → m.trapped ≡ false → IsCountable (shot_of m) → CanRestore m.tree m.net (shot_of m)
 unfolding shot_of
-saved_fits m sound calm small = record {
+saved_fits m sound untrapped small = record {
   typed = sound.typed;
   fits = record {
     chans = length-map m.queues saved_queue ∙ queue_count m.queues m.net.chans sound.shaped.rooms;
     owns = length-map m.owns saved_own ∙ sound.shaped.keeps;
-    state = subst (λ (x : Seen). IsFitting m.tree m.net sound.typed.widths (state_of x [])) (sym (saved_back m sound calm)) (unfired_fits m sound);
+    state = subst (λ (x : Seen). IsFitting m.tree m.net sound.typed.widths (state_of x [])) (sym (saved_back m sound untrapped)) (unfired_fits m sound);
     countable = small;
   };
 }

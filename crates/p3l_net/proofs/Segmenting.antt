@@ -150,7 +150,7 @@ doubled n power several = by_exponent power.0 power.1
     by_exponent zero is = absurd (omega (arith, is, several))
     by_exponent (suc d) is = (d, is)
 
--- what the segment s of n is where words of whole elements are cut in half
+-- segment s of n of words of whole elements that are cut in half
 module _ (elem n : ℕ) (words : List ℤ) (some : 0 < elem) (whole : IsInElements elem (length words)) (power : IsPowerOfTwo n) (few : n ≤ 512) where
   abbrev middle : ℕ
   middle = length words / elem / 2 * elem

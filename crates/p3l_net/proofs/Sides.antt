@@ -71,7 +71,7 @@ counted_part f (y ∷ ys) c (suc i) x e h =
     let later = counted_part f ys c i x e h in
     omega (arith, split, later)
 
--- where a channel is counted once, one process has it
+-- a channel that is counted once has one process
 pub one_has : (f : Proc → List ℕ) (xs : List Proc) (c : ℕ) → times c (flat_map f xs) ≡ 1 → (i j : ℕ) (x y : Proc) → slice_get xs i ≡ Some x → slice_get xs j ≡ Some y → Has (f x) c → Has (f y) c → i ≡ j
 one_has f [] c once i j x y a b h k = cc
 one_has f (z ∷ zs) c once zero zero x y a b h k = refl
@@ -156,7 +156,7 @@ all_entered net sides writers readers = record {
     inside (y ∷ ys) zero x e = omega arith
     inside (y ∷ ys) (suc i) x e = let r = inside ys i x e in omega (arith, r)
 
--- what was read is there
+-- an item that was read is there
 pub get_is : (xs : List Proc) (i : ℕ) (x : Proc) → i < length xs → x ≡ get_or xs i x → slice_get xs i ≡ Some x
 get_is [] i x h e = absurd (omega (arith, h))
 get_is (y ∷ ys) zero x h e = ap Some (sym e)

@@ -9,7 +9,7 @@ use Rattle.p3l_firing.specs.declared.net.Net.{Net}
 use Rattle.p3l_firing.specs.declared.token.Token.{Token}
 use Rattle.p3l_firing.specs.Token.{has_trap}
 use Rattle.p3l_firing.specs.Nodes.{Leaf}
-use Rattle.p3l_firing.specs.State.{Own, State, fresh, first_state}
+use Rattle.p3l_firing.specs.State.{LocalState, State, fresh, first_state}
 use Rattle.p3l_firing.specs.Widths.{Widths}
 use Rattle.p3l_firing.specs.Fire.{can_fire, fire}
 use Rattle.p3l_firing.specs.Typed.{IsTyped, IsFitting}
@@ -22,7 +22,7 @@ use Rattle.p3l_net.proofs.Queues.{rooms-opened, tokens-opened, owns-first}
 pub started_state : (tree : Tree) (net : Net) → state_of (started tree net) [] ≡ first_state net []
 unfolding state_of first_state
 started_state tree net =
-    let with : (ℕ → List Token) → (ℕ → Own) → State = λ f g. record { tokens = f; own = g; unsent = []; sent = 0; emitted = [] } in
+    let with : (ℕ → List Token) → (ℕ → LocalState) → State = λ f g. record { tokens = f; own = g; unsent = []; sent = 0; emitted = [] } in
     ap₂ with (tokens-opened net) (owns-first (length net.procs))
 
 pub started_sound : (tree : Tree) (net : Net) → IsTyped tree net → IsSound (started tree net)
@@ -31,14 +31,14 @@ started_sound tree net typed = record {
   shaped = record {
     rooms = rooms-opened net.chans;
     keeps = length-replicate (length net.procs) fresh;
-    numbers = λ p. subst (λ (o : Own). o.number < 0 + 2 ^ 63) (sym (ap (λ (f : ℕ → Own). f p) (owns-first (length net.procs)))) (omega arith);
+    numbers = λ p. subst (λ (o : LocalState). o.number < 0 + 2 ^ 63) (sym (ap (λ (f : ℕ → LocalState). f p) (owns-first (length net.procs)))) (omega arith);
     sent = omega arith;
     emitted = omega arith;
   };
   fitting = subst (IsFitting tree net typed.widths) (sym (started_state tree net)) (fitting_first tree net typed [] tt);
 }
 
--- whether a state fits doesn't rest on what was emitted
+-- a state fits whichever outcomes were emitted
 emitted_fits : {tree : Tree} {net : Net} {widths : Widths} (m : Seen) (es fs : List Outcome) → IsFitting tree net widths (state_of m es) → IsFitting tree net widths (state_of m fs)
 unfolding state_of
 emitted_fits m es fs fit = record { rooms = fit.rooms; tokens = fit.tokens; owns = fit.owns; unsent = fit.unsent }
@@ -52,7 +52,7 @@ offered_sound m item sound long = record {
   fitting = record { rooms = sound.fitting.rooms; tokens = sound.fitting.tokens; owns = sound.fitting.owns; unsent = (long, tt) };
 }
 
--- what is typed, and fits
+-- a state that fits a typed net
 Fitted : State → Tree → Net → Type 0
 Fitted s tree net = (typed : IsTyped tree net) × IsFitting tree net typed.widths s
 

@@ -1,4 +1,4 @@
--- What is known of the process at a number of a sound machine.
+-- Facts on the process of a number of a sound machine.
 use Rattle.std.proofs.Common.{◌≡◌, ◌≢◌, ℕ, ◌+◌, ◌^◌, ◌<◌, ◌≤◌, true, List, [], ◌∷◌, length, Some, zero, suc, slice_get, get_or, nat_lt, sym, ap, ◌∙◌, subst, arith, length-set}
 use Rattle.std.specs.Option.{option_map}
 use Rattle.std.specs.Result.{OnErr}
@@ -12,7 +12,7 @@ use Rattle.p3l_firing.specs.declared.token.Token.{Token}
 use Rattle.p3l_firing.specs.declared.token.Token.{Token}
 use Rattle.p3l_firing.specs.Lists.{has_first, first_or}
 use Rattle.p3l_firing.specs.Token.{credit}
-use Rattle.p3l_firing.specs.State.{Own, has_room, own_at}
+use Rattle.p3l_firing.specs.State.{LocalState, has_room, own_at}
 use Rattle.p3l_firing.specs.Process.{Has, kind_at}
 use Rattle.p3l_firing.specs.Widths.{FitsToken}
 use Rattle.p3l_firing.specs.Fire.{row_can, row_wants_memory, wants_memory, wants_memory_of}
@@ -77,7 +77,7 @@ module _ {m : Seen} {p : ℕ} {q : Proc} (h : Stands m p q) where
   pub own_there : p < length m.owns
   own_there = subst (λ n. p < n) (sym h.sound.shaped.keeps) (get_inside m.net.procs p q h.stands)
 
-  -- whether it is ready is what its row says
+  -- it is ready as its row says
   pub ready_as : (k : ProcKind) → q.kind ≡ k → ready_at m p ≡ row_can k m.tree m.net (state_of m []) (own_at m.owns p) q
   unfolding state_of
   ready_as k e = row_ready m.tree m.net (state_of m []) p q h.stands ∙ ap (λ x. row_can x m.tree m.net (state_of m []) (own_at m.owns p) q) e
@@ -116,8 +116,8 @@ take_after_take {m = m} {c = c} i apart can = record {
   token = subst (λ ts. 0 < length ts) (sym (tokens-other-take m.queues i c apart)) can.token;
 }
 
--- what a process keeps has nothing to do with the room of channels, and a channel that was put into leaves the room of others
-pub put_after_own : {m : Seen} (p : ℕ) (o : Own) {c : ℕ} → CanPut m c → CanPut (with_own m p o) c
+-- local states don't change the room of channels, and putting into a channel leaves the room of others
+pub put_after_own : {m : Seen} (p : ℕ) (o : LocalState) {c : ℕ} → CanPut m c → CanPut (with_own m p o) c
 put_after_own p o can = record { there = can.there; room = can.room }
 
 pub put_after_put : {m : Seen} {c : ℕ} (o : ℕ) (token : Token) → c ≢ o → CanPut m c → CanPut (with_last m o token) c
@@ -142,14 +142,14 @@ pub first_held : (tokens : List Token) (token : Token) → has_first tokens ≡ 
 first_held [] token some is = cc
 first_held (first ∷ more) token some is = is
 
--- whether a firing may want memory is what its row says
+-- a firing may want memory as its row says
 pub wants_as : (m : Seen) (p : ℕ) {q : Proc} {k : ProcKind} → slice_get m.net.procs p ≡ Some q → q.kind ≡ k → row_wants_memory k m.net (state_of m []) (own_at m.owns p) q ≡ true → may_want_memory m p ≡ true
 unfolding wants_memory wants_memory_of state_of
 wants_as m p {q = q} {k = k} stands kind wants =
     ap (λ o. wants_memory_of o m.net (state_of m []) (own_at m.owns p)) stands
     ∙ ap (λ x. row_wants_memory x m.net (state_of m []) (own_at m.owns p) q) kind ∙ wants
 
--- what holds anyway holds where a call was refused
+-- a fact also holds where a call was refused
 pub on_err : {A E : Type 0} {P : Type 0} (r : Result A E) → P → OnErr r P
 on_err (Ok x) p = tt
 on_err (Err e) p = p

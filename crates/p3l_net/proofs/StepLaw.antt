@@ -15,7 +15,7 @@ use Rattle.p3l_firing.specs.Lists.{rest_of}
 use Rattle.p3l_firing.specs.Token.{has_trap}
 use Rattle.p3l_firing.specs.Nodes.{Leaf}
 use Rattle.p3l_firing.specs.Process.{Has, IsAt}
-use Rattle.p3l_firing.specs.State.{Own, State, fresh, own_at}
+use Rattle.p3l_firing.specs.State.{LocalState, State, fresh, own_at}
 use Rattle.p3l_firing.specs.Fire.{row_fire}
 use Rattle.p3l_firing.proofs.Rows.{fire_at}
 use Rattle.p3l_net.specs.Channel.{Queue, no_queue, tokens_at, appended, taken}
@@ -27,7 +27,7 @@ use Rattle.p3l_net.proofs.Queues.{rooms, rooms-appended, rooms-taken, queue_coun
 pub data Step : Type 0 where
   Take : ℕ → Step
   Put : ℕ → Token → Step
-  Keep : Own → Step
+  Keep : LocalState → Step
 
 -- the channels that steps touch
 abbrev pub channels : List Step → List ℕ
@@ -81,7 +81,7 @@ queues_after queues (Take c ∷ steps) = queues_after (taken queues c) steps
 queues_after queues (Put c token ∷ steps) = queues_after (appended queues c token) steps
 queues_after queues (Keep o ∷ steps) = queues_after queues steps
 
-abbrev pub owns_after : ℕ → List Own → List Step → List Own
+abbrev pub owns_after : ℕ → List LocalState → List Step → List LocalState
 owns_after p owns [] = owns
 owns_after p owns (Take c ∷ steps) = owns_after p owns steps
 owns_after p owns (Put c token ∷ steps) = owns_after p owns steps
@@ -93,7 +93,7 @@ tokens_after tokens (Take c ∷ steps) = tokens_after (at tokens c (rest_of (tok
 tokens_after tokens (Put c token ∷ steps) = tokens_after (at tokens c (tokens c ++ token ∷ [])) steps
 tokens_after tokens (Keep o ∷ steps) = tokens_after tokens steps
 
-abbrev pub own_after : ℕ → (ℕ → Own) → List Step → ℕ → Own
+abbrev pub own_after : ℕ → (ℕ → LocalState) → List Step → ℕ → LocalState
 own_after p own [] = own
 own_after p own (Take c ∷ steps) = own_after p own steps
 own_after p own (Put c token ∷ steps) = own_after p own steps
@@ -124,7 +124,7 @@ module _ (p n k f : ℕ) where
       ∙ ap (λ t. tokens_after t steps) (tokens-appended queues c token (subst (λ x. c < x) (sym long) all.0))
   tokens-after queues (Keep o ∷ steps) long all = tokens-after queues steps long all.1
 
-  own-after : (owns : List Own) (steps : List Step) → length owns ≡ k → AllByRecursion (IsInside p n k f) steps → own_at (owns_after p owns steps) ≡ own_after p (own_at owns) steps
+  own-after : (owns : List LocalState) (steps : List Step) → length owns ≡ k → AllByRecursion (IsInside p n k f) steps → own_at (owns_after p owns steps) ≡ own_after p (own_at owns) steps
   own-after owns [] long all = refl
   own-after owns (Take c ∷ steps) long all = own-after owns steps long all.1
   own-after owns (Put c token ∷ steps) long all = own-after owns steps long all.1
@@ -138,31 +138,31 @@ module _ (p n k f : ℕ) where
   rooms-after queues (Put c token ∷ steps) = rooms-after (appended queues c token) steps ∙ rooms-appended queues c token
   rooms-after queues (Keep o ∷ steps) = rooms-after queues steps
 
-  keeps-after : (owns : List Own) (steps : List Step) → length (owns_after p owns steps) ≡ length owns
+  keeps-after : (owns : List LocalState) (steps : List Step) → length (owns_after p owns steps) ≡ length owns
   keeps-after owns [] = refl
   keeps-after owns (Take c ∷ steps) = keeps-after owns steps
   keeps-after owns (Put c token ∷ steps) = keeps-after owns steps
   keeps-after owns (Keep o ∷ steps) = keeps-after (slice_set owns p o) steps ∙ length-set owns p o
 
-  -- what the other processes keep stays
-  others-after : (owns : List Own) (steps : List Step) (r : ℕ) → r ≢ p → own_at (owns_after p owns steps) r ≡ own_at owns r
+  -- the local states of other processes stay
+  others-after : (owns : List LocalState) (steps : List Step) (r : ℕ) → r ≢ p → own_at (owns_after p owns steps) r ≡ own_at owns r
   others-after owns [] r e = refl
   others-after owns (Take c ∷ steps) r e = others-after owns steps r e
   others-after owns (Put c token ∷ steps) r e = others-after owns steps r e
   others-after owns (Keep o ∷ steps) r e = others-after (slice_set owns p o) steps r e ∙ get_or-set_other owns p r o fresh e
 
-  abbrev few : List Own → Type 0
+  abbrev few : List LocalState → Type 0
   few owns = (r : ℕ) → (own_at owns r).number < f
 
-  numbers-after : (owns : List Own) (steps : List Step) → length owns ≡ k → AllByRecursion (IsInside p n k f) steps → few owns → few (owns_after p owns steps)
+  numbers-after : (owns : List LocalState) (steps : List Step) → length owns ≡ k → AllByRecursion (IsInside p n k f) steps → few owns → few (owns_after p owns steps)
   numbers-after owns [] long all h = h
   numbers-after owns (Take c ∷ steps) long all h = numbers-after owns steps long all.1 h
   numbers-after owns (Put c token ∷ steps) long all h = numbers-after owns steps long all.1 h
   numbers-after owns (Keep o ∷ steps) long all h =
       numbers-after (slice_set owns p o) steps (length-set owns p o ∙ long) all.1
       (λ r. elim (cases_eq r p) [
-        | inl e ↦ subst (λ i. (own_at (slice_set owns p o) i).number < f) (sym e) (subst (λ (x : Own). x.number < f) (sym (get_or-set_same owns p o fresh (subst (λ x. p < x) (sym long) all.0.0))) all.0.1)
-        | inr e ↦ subst (λ (x : Own). x.number < f) (sym (get_or-set_other owns p r o fresh e)) (h r)
+        | inl e ↦ subst (λ i. (own_at (slice_set owns p o) i).number < f) (sym e) (subst (λ (x : LocalState). x.number < f) (sym (get_or-set_same owns p o fresh (subst (λ x. p < x) (sym long) all.0.0))) all.0.1)
+        | inr e ↦ subst (λ (x : LocalState). x.number < f) (sym (get_or-set_other owns p r o fresh e)) (h r)
       ])
 
   -- channels that are not touched stay
@@ -246,7 +246,7 @@ module _ {m : Seen} {p : ℕ} {q : Proc} (h : Stands m p q) (steps : List Step) 
   pub seen-state : (es : List Outcome) → state_of new es ≡ state_after p (state_of m es) steps
   unfolding state_of
   seen-state es =
-      let with : (ℕ → List Token) → (ℕ → Own) → State = λ t o. record { tokens = t; own = o; unsent = option_to_list m.inbox; sent = m.sent; emitted = es } in
+      let with : (ℕ → List Token) → (ℕ → LocalState) → State = λ t o. record { tokens = t; own = o; unsent = option_to_list m.inbox; sent = m.sent; emitted = es } in
       ap₂ with (tokens-after p (length m.queues) (length m.owns) (m.fired + 1 + 2 ^ 63) m.queues steps refl all) (own-after p (length m.queues) (length m.owns) (m.fired + 1 + 2 ^ 63) m.owns steps refl all)
 
   pub seen-shaped : IsShaped new
@@ -276,7 +276,7 @@ module _ {m : Seen} {p : ℕ} {q : Proc} (h : Stands m p q) (steps : List Step) 
     inbox = inr refl;
   }
 
-  -- where the row of its kind makes these steps, it has fired
+  -- it has fired, if the row of its kind makes these steps
   pub done : (leaf : Leaf) (k : ProcKind) → q.kind ≡ k → ((es : List Outcome) → state_after p (state_of m es) steps ≡ row_fire k m.tree leaf m.net (state_of m es) p (own_at m.owns p) q) → Done leaf m new p (channels steps) None
   unfolding state_of
   done leaf k e row = record {

@@ -1,5 +1,5 @@
 -- Shots that fit a net and its loops as every state of a run does, but for the order of tokens.
-use Rattle.std.specs.Prelude.{◌≡◌, ℕ, ◌+◌, ◌<◌, ◌≤◌, ⊤, List, [], length, Some, slice_get, slice_index, slice_index_or}
+use Rattle.std.specs.Prelude.{◌≡◌, ℕ, ◌+◌, ◌<◌, ◌≤◌, ⊤, List, length, Some, slice_get, slice_index}
 use Rattle.std.specs.List.{All}
 use Rattle.p3l_base.specs.declared.outcome.Outcome.{Outcome}
 use Rattle.p3l_base.specs.declared.outcome.Outcome.TheVariants.{Value, Trapped}
@@ -16,13 +16,14 @@ use Rattle.p3l_firing.specs.Process.{in_of, out_of}
 use Rattle.p3l_firing.specs.State.{chan_at}
 use Rattle.p3l_firing.specs.Token.{credit}
 use Rattle.p3l_firing.specs.Widths.{Widths}
-use Rattle.p3l_net.specs.Shot.{Fits, saved_at, token_of}
-use Rattle.p3l_net.specs.declared.shot.Own.{Own}
-use Rattle.p3l_net.specs.declared.shot.SavedToken.{SavedToken}
-use Rattle.p3l_net.specs.declared.shot.Shot.{Shot}
+use Rattle.p3l_firing.specs.Shot.{own_saved_at, saved_at, token_of}
+use Rattle.p3l_firing.specs.declared.shot.Own.{Own}
+use Rattle.p3l_firing.specs.declared.shot.SavedToken.{SavedToken}
+use Rattle.p3l_firing.specs.declared.shot.Shot.{Shot}
+use Rattle.p3l_net.specs.Shot.{Fits}
 
--- where a loop is placed in a net: its head and its tail, and from which number on and before which the processes and the channels
--- are its own or its body's
+-- the place of a loop in a net: its head and its tail, and the intervals of the processes and of the channels that are its own or
+-- its body's
 pub record LoopPlace : Type 0 where
   pub head : ℕ
   pub tail : ℕ
@@ -30,10 +31,6 @@ pub record LoopPlace : Type 0 where
   pub proc_to : ℕ
   pub chan_from : ℕ
   pub chan_to : ℕ
-
--- what is saved of a process: of one that is not there a number 0, and no tokens
-abbrev pub own_saved_at : Shot → ℕ → Own
-own_saved_at shot p = slice_index_or shot.owns p (record { number = 0; held = [] })
 
 abbrev pub IsCredit : SavedToken → Type 0
 IsCredit saved = token_of saved ≡ credit
@@ -61,7 +58,7 @@ HoldsFew kinds.Join net q o = ⊤
 HoldsFew kinds.Head net q o = ⊤
 HoldsFew kinds.Tail net q o = length o.held ≤ (chan_at net (out_of q 2)).cap
 
--- how many tokens a form lets in at once, if it is that of a loop
+-- the most tokens that a form lets in at once, if it is that of a loop
 abbrev pub most_tokens : Form → ℕ
 most_tokens Seq = 0
 most_tokens Comp = 0

@@ -1,4 +1,4 @@
--- What contracts see of a machine, and the state that it is in.
+-- Machines as contracts see them, and their states.
 use Rattle.std.specs.Prelude.{◌≡◌, ℕ, ℤ, ◌+◌, ◌^◌, ◌<◌, List, [], ◌++◌, Bool, false, not, ◌&&◌, Option, None, Some, slice_get, length, map, replicate, filter}
 use Rattle.std.specs.List.{range_with_len}
 use Rattle.std.specs.Option.{option_to_list}
@@ -8,19 +8,19 @@ use Rattle.p3l_firing.specs.declared.net.Chan.{Chan}
 use Rattle.p3l_firing.specs.declared.net.Net.{Net}
 use Rattle.p3l_firing.specs.Token.{has_trap}
 use Rattle.p3l_net.specs.Channel.{Queue, opened, tokens_at}
-use Rattle.p3l_firing.specs.State.{Own, State, fresh, own_at}
+use Rattle.p3l_firing.specs.State.{LocalState, State, fresh, own_at}
 use Rattle.p3l_firing.specs.Nodes.{Leaf}
 use Rattle.p3l_firing.specs.Fire.{is_ready, fire, wants_memory}
 use Rattle.p3l_firing.specs.Typed.{IsTyped, IsFitting}
 use Rattle.p3l_firing.specs.declared.process.Proc.{Proc}
 
--- what contracts see of a machine: the tree and the net that it was started with, the queue of each channel, what each
--- process keeps, the item in the inbox, the numbers of firings, of items sent and of outcomes emitted, and whether one of these was a trap
+-- a machine as contracts see it: the tree and the net that it was started with, the queue of each channel, the local state of each
+-- process, the item in the inbox, the numbers of firings, of items sent and of outcomes emitted, and whether one of these was a trap
 pub record Seen : Type 0 where
   pub tree : Tree
   pub net : Net
   pub queues : List Queue
-  pub owns : List Own
+  pub owns : List LocalState
   pub inbox : Option (List ℤ)
   pub fired : ℕ
   pub sent : ℕ
@@ -79,7 +79,7 @@ pub record IsShaped (m : Seen) : Type 0 where
   pub sent : m.sent < m.fired + 2 ^ 63
   pub emitted : m.emitted < m.fired + 2 ^ 63
 
--- what every machine keeps: its net is typed, and its state fits the net
+-- an invariant of machines: the net is typed, and the state fits the net
 pub record IsSound (m : Seen) : Type 0 where
   pub typed : IsTyped m.tree m.net
   pub shaped : IsShaped m

@@ -5,7 +5,7 @@ use Rattle.p3l_skel.specs.Item.{item}
 use Rattle.p3l_skel.specs.Tree.{node_at, HasFittingLength, HasLength, IsUnit}
 use Rattle.p3l_firing.specs.Nodes.{Leaf}
 
--- how many words the operator of a number gives
+-- the count of words that an operator gives
 abbrev pub outs_of : Tree → ℕ → ℕ
 outs_of tree operator = (node_at tree operator).outs
 

@@ -1,4 +1,4 @@
--- How the tokens of a channel lie in its two rings: their outcomes in one, the tags of those that have some in the other.
+-- Tokens of a channel in its two rings: their outcomes in one, the tags of those that have some in the other.
 use Rattle.std.specs.Prelude.{◌≡◌, ℕ, ◌+◌, List, [], ◌∷◌, length, drop}
 use Rattle.circular_buffer.specs.Buffer.{Buffer}
 use Rattle.p3l_firing.specs.declared.token.Token.{Token}
@@ -8,7 +8,7 @@ use Rattle.p3l_net.specs.Channel.{Queue}
 use Rattle.p3l_net.specs.declared.channel.Slot.{Slot}
 use Rattle.p3l_net.specs.declared.channel.Slot.TheVariants.{Plain, Tagged}
 
--- how many lists of tags a slot has
+-- the count of lists of tags that a slot has
 abbrev pub lists_of : Slot → ℕ
 lists_of (Plain body) = 0
 lists_of (Tagged body) = 1

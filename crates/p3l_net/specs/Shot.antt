@@ -1,39 +1,24 @@
--- What is saved of a machine, and the machine that is restored from it.
-use Rattle.std.specs.Prelude.{◌≡◌, ℕ, ◌^◌, ◌<◌, ◌≤◌, List, [], ◌∷◌, length, map, reverse, slice_index_or, EachIndex, false}
+-- Saved states of machines, and the machines that are restored from them.
+use Rattle.std.specs.Prelude.{◌≡◌, ◌≤◌, List, [], ◌∷◌, length, map, EachIndex, false}
 use Rattle.std.specs.List.{All}
 use Rattle.p3l_skel.specs.declared.tree.Tree.{Tree}
 use Rattle.p3l_firing.specs.declared.net.Chan.{Chan}
 use Rattle.p3l_firing.specs.declared.net.Net.{Net}
-use Rattle.p3l_firing.specs.declared.token.Token.{Token}
-use Rattle.p3l_firing.specs.State.{Own, chan_at}
-use Rattle.p3l_firing.specs.Token.{most_tags}
+use Rattle.p3l_firing.specs.Shot.{HasFewTags, IsCountable, own_of, saved_at, saved_own, saved_token, token_of}
+use Rattle.p3l_firing.specs.State.{chan_at}
 use Rattle.p3l_firing.specs.Typed.{IsTyped, IsFitting}
 use Rattle.p3l_firing.specs.Widths.{Widths}
+use Rattle.p3l_firing.specs.declared.shot.Own.{Own as SavedOwn}
+use Rattle.p3l_firing.specs.declared.shot.SavedToken.{SavedToken}
+use Rattle.p3l_firing.specs.declared.shot.Shot.{Shot}
 use Rattle.p3l_net.specs.Channel.{Queue}
 use Rattle.p3l_net.specs.Machine.{Seen, state_of}
-use Rattle.p3l_net.specs.declared.shot.Own.{Own as SavedOwn}
-use Rattle.p3l_net.specs.declared.shot.SavedToken.{SavedToken}
-use Rattle.p3l_net.specs.declared.shot.Shot.{Shot}
-
--- a token as it is saved, and back: contracts see the tags of a token from the newest to the oldest
-abbrev pub saved_token : Token → SavedToken
-saved_token token = record { tags = reverse token.tags; body = token.body }
-
-abbrev pub token_of : SavedToken → Token
-token_of saved = record { tags = reverse saved.tags; body = saved.body }
-
--- what a process keeps, as it is saved, and back
-abbrev pub saved_own : Own → SavedOwn
-saved_own o = record { number = o.number; held = map saved_token o.held }
-
-abbrev pub own_of : SavedOwn → Own
-own_of saved = record { number = saved.number; held = map token_of saved.held }
 
 -- the tokens of a queue, as they are saved
 abbrev pub saved_queue : Queue → List SavedToken
 saved_queue queue = map saved_token queue.tokens
 
--- what is saved of a machine
+-- the saved state of a machine
 unfoldable pub shot_of : Seen → Shot
 shot_of m =
     record {
@@ -69,14 +54,6 @@ restored tree net shot =
       trapped = false;
     }
 
--- a token has no more tags than a token may have
-abbrev pub HasFewTags : SavedToken → Type 0
-HasFewTags saved = length saved.tags ≤ most_tags
-
--- the tokens saved of channel c
-abbrev pub saved_at : Shot → ℕ → List SavedToken
-saved_at shot c = slice_index_or shot.chans c []
-
 -- a channel has room for these tokens
 pub record HasRoom (chan : Chan) (saved : List SavedToken) : Type 0 where
   pub room : length saved ≤ chan.cap
@@ -87,12 +64,6 @@ pub record IsHeld (net : Net) (shot : Shot) : Type 0 where
   pub lists : length shot.chans ≡ length net.chans
   pub chans : EachIndex net.chans (λ c. HasRoom (chan_at net c) (saved_at shot c))
   pub owns : All (λ (own : SavedOwn). All HasFewTags own.held) shot.owns
-
--- what was counted is below 2^63
-pub record IsCountable (shot : Shot) : Type 0 where
-  pub numbers : All (λ (own : SavedOwn). own.number < 2 ^ 63) shot.owns
-  pub sent : shot.sent < 2 ^ 63
-  pub emitted : shot.emitted < 2 ^ 63
 
 -- a shot fits a net whose channels carry these words and tags: there is a list for each channel and what each process keeps, the
 -- state fits, and what was counted is below 2^63

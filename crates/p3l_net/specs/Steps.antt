@@ -11,7 +11,7 @@ use Rattle.p3l_firing.specs.declared.token.Token.{Token}
 use Rattle.p3l_firing.specs.Token.{is_trap}
 use Rattle.p3l_net.specs.Channel.{queue_at, tokens_at, appended, taken}
 use Rattle.p3l_firing.specs.Lists.{rest_of}
-use Rattle.p3l_firing.specs.State.{Own, chan_at, own_at}
+use Rattle.p3l_firing.specs.State.{LocalState, chan_at, own_at}
 use Rattle.p3l_firing.specs.Fire.{is_ready}
 use Rattle.p3l_ready.specs.Flags.{flag_at}
 use Rattle.p3l_firing.specs.Nodes.{Leaf}
@@ -31,8 +31,8 @@ without_first m c = record m { queues = taken m.queues c }
 abbrev pub with_last : Seen → ℕ → Token → Seen
 with_last m c token = record m { queues = appended m.queues c token }
 
--- process p keeps something else
-abbrev pub with_own : Seen → ℕ → Own → Seen
+-- process p has another local state
+abbrev pub with_own : Seen → ℕ → LocalState → Seen
 with_own m p o = record m { owns = slice_set m.owns p o }
 
 -- the item in the inbox is sent
@@ -126,7 +126,7 @@ Reads net p c = IsSomeAnd (slice_get net.procs p) (λ (q : Proc). Has q.ins c)
 abbrev pub Writes : Net → ℕ → ℕ → Type 0
 Writes net p c = IsSomeAnd (slice_get net.procs p) (λ (q : Proc). Has q.outs c)
 
--- the channels and what process r keeps allow it to fire
+-- the channels and the local state of process r allow it to fire
 abbrev pub ready_at : Seen → ℕ → Bool
 ready_at m r = is_ready m.tree m.net (state_of m []) r
 
@@ -168,7 +168,7 @@ pub record CanRefresh (m : Seen) (ends : Ends) (flags : List Bool) (p : ℕ) (to
   pub size : length flags ≡ length m.net.procs
   pub others : (r : ℕ) → r < length m.net.procs → r ≢ p → AllHaveSlack m r touched → flag_at flags r ≡ ready_at m r
 
--- what every machine keeps: it is sound, the flags tell which processes are ready, and the ends are those of its net
+-- an invariant of machines: they are sound, the flags tell which processes are ready, and the ends are those of the net
 pub record IsKept (m : Seen) (flags : List Bool) (ends : Ends) : Type 0 where
   pub sound : IsSound m
   pub agrees : AgreesBut m flags []

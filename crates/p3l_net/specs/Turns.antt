@@ -1,4 +1,4 @@
--- What a tail does with tokens, as its row says it.
+-- Turns of tokens, as a tail decides them.
 use Rattle.std.specs.Prelude.{◌≡◌, ℕ, ◌+◌, ◌<◌, ◌++◌, true, List, length, take, drop, slice_index_or}
 use Rattle.p3l_base.specs.declared.outcome.Outcome.{Outcome}
 use Rattle.p3l_base.specs.declared.outcome.Outcome.TheVariants.{Trapped}

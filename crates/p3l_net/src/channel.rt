@@ -1,27 +1,25 @@
 // Channels of the machine: rings of outcomes and of tags, whose room is taken when they are made.
 
-ghost use Rattle.std.specs.Prelude.{◌≡◌, ◌+◌, ◌<◌, ◌≤◌, [], ◌∷◌, ◌++◌, drop, length, map, IsTrue, nat_lt};
-ghost use Rattle.p3l_base.specs.Memory.{IfGiven};
+ghost use Rattle.std.specs.Prelude.{◌≡◌, ◌+◌, ◌<◌, ◌≤◌, [], ◌∷◌, ◌++◌, drop, length, map, slice_index_or, EachIndex};
+ghost use Rattle.p3l_base.specs.Memory.{IfGiven, OnGiven};
 ghost use Rattle.std.specs.List.{All};
 ghost use Rattle.p3l_net.specs.Channel.{opened};
 ghost use Rattle.p3l_net.specs.Rings.{lists_in, lists_of, token_in, tokens_of};
-ghost use Rattle.p3l_net.specs.Shot.{HasFewTags, queue_of, saved_queue, saved_token};
-ghost use Rattle.p3l_firing.specs.Token.{credit, newest_tag, plain};
-ghost use Rattle.p3l_firing.specs.Lists.{has_first, first_or, rest_of};
+ghost use Rattle.p3l_firing.specs.Shot.{HasFewTags, saved_token, token_of};
+ghost use Rattle.p3l_net.specs.Shot.{HasRoom, queue_of, queues_of, saved_queue};
+ghost use Rattle.p3l_firing.specs.State.{no_chan};
 
 use crate::ring;
-use crate::saved_tags::is_bare;
-use crate::shot::SavedToken;
 use circular_buffer::HeapCircularBuffer;
 use p3l_base::{List, NoMemory, Outcome, Words};
-use p3l_firing::{Chan, Tags, Token};
+use p3l_firing::{Chan, SavedToken, Tags, Token};
 use std::alloc::Global;
 use std::marker::Model;
 
 /// The entry of a token in the ring of outcomes: its outcome, and whether its tags lie in the ring
 /// of tags. Those of a plain token lie nowhere: it has none.
 #[derive(Debug, Drop)]
-enum Slot {
+pub(crate) enum Slot {
     Plain(Outcome),
     Tagged(Outcome),
 }
@@ -37,8 +35,8 @@ impl Slot {
         }
     }
 
-    // The outcome.
-    fn body(&self) -> &Outcome
+    /// The outcome.
+    pub(crate) fn body(&self) -> &Outcome
         ensures { result.now ≡ (token_in self.now []).body }
     {
         match self {
@@ -89,8 +87,8 @@ fn saved_slots(
 /// may be. Tags lie apart from the outcomes, so that a token without tags is moved without them.
 #[derive(Debug, Drop)]
 pub(crate) struct Channel {
-    slots: HeapCircularBuffer<Slot>,
-    tags: HeapCircularBuffer<Tags>,
+    pub(crate) slots: HeapCircularBuffer<Slot>,
+    pub(crate) tags: HeapCircularBuffer<Tags>,
 }
 
 impl Model for Channel {
@@ -115,168 +113,98 @@ impl Channel {
         Ok(Channel { slots, tags })
     }
 
-    /// The channel as it is before anything has fired: empty but for its credits.
-    pub(crate) fn open(alloc: Global, chan: &Chan) -> Result<Channel, NoMemory>
+    // The channel as it is before anything has fired: empty but for its credits.
+    fn open(alloc: Global, chan: &Chan) -> Result<Channel, NoMemory>
         requires { chan.now.credits ≤ chan.now.cap }
         ensures { IfGiven result (λ channel. channel ≡ opened chan.now) }
     {
         let mut channel = Channel::empty(alloc, chan)?;
         for _ in 0..chan.credits {
-            channel.append_plain(Outcome::Value(Words::new(alloc)));
+            let credit = Outcome::Value(Words::new(alloc));
+            ring::append(&mut channel.slots, Slot::Plain(credit));
         }
         Ok(channel)
     }
 
-    /// The channel with the tokens that were saved.
-    pub(crate) fn restore(
-        alloc: Global,
-        chan: &Chan,
-        saved: &[SavedToken],
-    ) -> Result<Channel, NoMemory>
+    // Appends a token that was saved, for which there is room.
+    fn append_saved(&mut self, alloc: Global, saved: &SavedToken) -> Result<(), NoMemory>
+        requires room { length self.old.tokens < self.old.room }
+        requires tags { HasFewTags saved.now }
+        ensures { OnGiven result (self.new
+            ≡ record self.old { tokens = self.old.tokens ++ token_of saved.now ∷ [] }) }
+    {
+        let Token { tags, body } = saved.restore(alloc)?;
+        if tags.is_empty() {
+            ring::append(&mut self.slots, Slot::Plain(body));
+            return Ok(());
+        }
+        ring::append(&mut self.slots, Slot::Tagged(body));
+        ring::append(&mut self.tags, tags);
+        Ok(())
+    }
+
+    // The channel with the tokens that were saved.
+    fn restore(alloc: Global, chan: &Chan, saved: &[SavedToken]) -> Result<Channel, NoMemory>
         requires room { length saved.now ≤ chan.now.cap }
         requires tags { All HasFewTags saved.now }
         ensures { IfGiven result (λ channel. channel ≡ queue_of chan.now saved.now) }
     {
         let mut channel = Channel::empty(alloc, chan)?;
         for token in saved {
-            channel.append(token.restore(alloc)?);
+            channel.append_saved(alloc, token)?;
         }
         Ok(channel)
     }
 
-    /// Its tokens, as they are saved.
-    pub(crate) fn save(&self, alloc: Global) -> Result<List<SavedToken>, NoMemory>
+    // Saves its tokens.
+    fn save(&self, alloc: Global) -> Result<List<SavedToken>, NoMemory>
         ensures { IfGiven result (λ saved. saved ≡ saved_queue self.now) }
     {
         saved_slots(alloc, &self.slots, &self.tags)
     }
+}
 
-    /// Returns true exactly if there is a token.
-    pub(crate) fn has_token(&self) -> bool
-        ensures { result ≡ has_first self.now.tokens }
-    {
-        !self.slots.is_empty()
+/// The channels of a net before anything has fired.
+pub(crate) fn open_all(alloc: Global, chans: &[Chan]) -> Result<Vec<Channel>, NoMemory>
+    requires { EachIndex chans.now (λ c. (slice_index_or chans.now c no_chan).credits
+        ≤ (slice_index_or chans.now c no_chan).cap) }
+    ensures { IfGiven result (λ channels. channels.items ≡ map opened chans.now) }
+{
+    let mut channels = Vec::new(alloc);
+    for chan in chans {
+        channels.push(Channel::open(alloc, chan)?)?;
     }
+    Ok(channels)
+}
 
-    /// The count of tokens.
-    pub(crate) fn len(&self) -> usize
-        ensures { result ≡ length self.now.tokens }
-    {
-        self.slots.len()
+/// The channels of a net with the tokens that were saved.
+pub(crate) fn restore_all(
+    alloc: Global,
+    chans: &[Chan],
+    saved: &[List<SavedToken>],
+) -> Result<Vec<Channel>, NoMemory>
+    requires all { length saved.now ≡ length chans.now }
+    requires fit { EachIndex chans.now (λ c. HasRoom
+        (slice_index_or chans.now c no_chan) (slice_index_or saved.now c [])) }
+    ensures { IfGiven result (λ channels. channels.items ≡ queues_of chans.now saved.now) }
+{
+    let mut channels = Vec::with_capacity(alloc, chans.len())?;
+    for c in 0..chans.len() {
+        channels.push(Channel::restore(alloc, &chans[c], saved[c].as_slice())?)?;
     }
+    Ok(channels)
+}
 
-    /// Returns true exactly if one more token may be appended.
-    pub(crate) fn has_room(&self) -> bool
-        ensures { result ≡ nat_lt (length self.now.tokens) self.now.room }
-    {
-        self.slots.len() < self.slots.capacity()
+/// Saves the tokens of each channel.
+pub(crate) fn save_all(
+    alloc: Global,
+    channels: &[Channel],
+) -> Result<List<List<SavedToken>>, NoMemory>
+    ensures { IfGiven result (λ saved. saved ≡ map saved_queue channels.now) }
+{
+    let mut saved = List::new(alloc);
+    for channel in channels {
+        saved.push(channel.save(alloc)?)?;
     }
-
-    /// The outcome of the first token.
-    pub(crate) fn front_body(&self) -> &Outcome
-        requires { 0 < length self.now.tokens }
-        ensures { result.now ≡ (first_or credit self.now.tokens).body }
-    {
-        ring::nth(&self.slots, 0).body()
-    }
-
-    /// The newest tag of the first token, 0 if it has none.
-    pub(crate) fn front_newest_tag(&self) -> u64
-        requires { 0 < length self.now.tokens }
-        ensures { result ≡ newest_tag (first_or credit self.now.tokens) }
-    {
-        match ring::nth(&self.slots, 0) {
-            Slot::Plain(_) => 0,
-            Slot::Tagged(_) => ring::nth(&self.tags, 0).newest(),
-        }
-    }
-
-    /// Returns true exactly if the first token has no tags stored: then it has none.
-    pub(crate) fn is_plain(&self) -> bool
-        requires { 0 < length self.now.tokens }
-        ensures { IsTrue result → (first_or credit self.now.tokens).tags ≡ [] }
-    {
-        match ring::nth(&self.slots, 0) {
-            Slot::Plain(_) => true,
-            Slot::Tagged(_) => false,
-        }
-    }
-
-    /// Appends a token, for which there is room.
-    pub(crate) fn append(&mut self, token: Token)
-        requires { length self.old.tokens < self.old.room }
-        ensures { self.new ≡ record self.old { tokens = self.old.tokens ++ token ∷ [] } }
-    {
-        let Token { tags, body } = token;
-        if is_bare(&tags) {
-            self.append_plain(body);
-        } else {
-            self.append_tagged(tags, body);
-        }
-    }
-
-    /// Appends a token without tags, for which there is room.
-    pub(crate) fn append_plain(&mut self, body: Outcome)
-        requires { length self.old.tokens < self.old.room }
-        ensures { self.new ≡ record self.old { tokens = self.old.tokens ++ plain body ∷ [] } }
-    {
-        ring::append(&mut self.slots, Slot::Plain(body));
-    }
-
-    /// Appends a token with these tags, for which there is room.
-    pub(crate) fn append_tagged(&mut self, tags: Tags, body: Outcome)
-        requires { length self.old.tokens < self.old.room }
-        ensures { self.new ≡ record self.old {
-          tokens
-              = self.old.tokens ++ record { tags = tags; body = body } ∷ [];
-        } }
-    {
-        ring::append(&mut self.slots, Slot::Tagged(body));
-        ring::append(&mut self.tags, tags);
-    }
-
-    /// Takes the first token.
-    pub(crate) fn take(&mut self) -> Token
-        requires { 0 < length self.old.tokens }
-        ensures taken { self.old.tokens ≡ result ∷ self.new.tokens }
-        ensures room { self.new.room ≡ self.old.room }
-    {
-        match ring::take(&mut self.slots) {
-            Slot::Plain(body) => Token::plain(body),
-            Slot::Tagged(body) => {
-                let tags = ring::take(&mut self.tags);
-                Token { tags, body }
-            }
-        }
-    }
-
-    /// Takes the first token, and lets go of its tags.
-    pub(crate) fn take_body(&mut self) -> Outcome
-        requires { 0 < length self.old.tokens }
-        ensures body { result ≡ (first_or credit self.old.tokens).body }
-        ensures after { self.new ≡ record self.old { tokens = rest_of self.old.tokens } }
-    {
-        match ring::take(&mut self.slots) {
-            Slot::Plain(body) => body,
-            Slot::Tagged(body) => {
-                let tags = ring::take(&mut self.tags);
-                drop(tags);
-                body
-            }
-        }
-    }
-
-    /// Puts a token before the others, for which there is room.
-    pub(crate) fn put_back(&mut self, token: Token)
-        requires { length self.old.tokens < self.old.room }
-        ensures { self.new ≡ record self.old { tokens = token ∷ self.old.tokens } }
-    {
-        let Token { tags, body } = token;
-        if is_bare(&tags) {
-            ring::prepend(&mut self.slots, Slot::Plain(body));
-        } else {
-            ring::prepend(&mut self.slots, Slot::Tagged(body));
-            ring::prepend(&mut self.tags, tags);
-        }
-    }
+    Ok(saved)
 }

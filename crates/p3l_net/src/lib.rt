@@ -4,21 +4,19 @@
 
 mod channel;
 mod channels;
-mod copies;
 pub mod ends;
 mod kinds;
 pub mod laws;
+mod local_state;
+mod locals;
 pub mod machine;
-mod own;
 mod refresh;
 mod ring;
-mod saved_tags;
-pub mod shot;
 mod store;
 mod touched;
 
 pub use machine::Machine;
 pub use p3l_firing::{
-    Chan, Fired, MOST_TAGS, Net, Proc, ProcKind, Tags, Token, net, process, single, token, unit_net,
+    Chan, Fired, MOST_TAGS, Net, Own, Proc, ProcKind, SavedToken, Shot, Tags, Token, net, process,
+    single, token, unit_net,
 };
-pub use shot::{Own, SavedToken, Shot};

@@ -3,22 +3,22 @@
 ghost use Rattle.std.specs.Prelude.{◌≡◌, ◌≢◌, ◌<◌, length, None, IsTrue, ◌↔◌, IfOk, OnOk, OnErr, Some, [], ◌^◌, ℕ, List, IsSome, IfSome, IfNone, true, false, slice_get, find};
 ghost use Rattle.p3l_base.specs.Memory.{IfGiven, IfGivenOr, OnGiven, OnGivenOr};
 ghost use Rattle.p3l_ready.specs.Flags.{in_turn};
-ghost use Rattle.p3l_net.specs.Machine.{can_step, started, state_of, HasEmitted, Fires, may_want_memory, ready_list};
-ghost use Rattle.p3l_net.specs.Steps.{CanFire, FiresLocally, IsReader, IsWriter, OthersStay, ready_at};
-ghost use Rattle.p3l_net.specs.Shot.{CanRestore, IsCountable, restored, shot_of};
+ghost use Rattle.p3l_firing.specs.Shot.{IsCountable};
 ghost use Rattle.p3l_firing.specs.Fire.{can_fire};
 ghost use Rattle.p3l_firing.specs.State.{first_state};
 ghost use Rattle.p3l_firing.specs.RoundRobin.{next_of};
 ghost use Rattle.p3l_firing.specs.Typed.{IsTyped};
 ghost use Rattle.p3l_firing.specs.Process.{kind_at};
+ghost use Rattle.p3l_net.specs.Machine.{can_step, started, state_of, HasEmitted, Fires, may_want_memory, ready_list};
+ghost use Rattle.p3l_net.specs.Steps.{CanFire, FiresLocally, IsReader, IsWriter, OthersStay, ready_at};
+ghost use Rattle.p3l_net.specs.Shot.{CanRestore, restored, shot_of};
 ghost use Rattle.p3l_skel.specs.Tree.{node_at};
 
 use crate::ends::Sides;
-use crate::refresh::{look_at_all, refresh, refresh_run};
-use crate::shot::Shot;
+use crate::refresh::{all_ready, refresh, refresh_run};
 use crate::store::Store;
 use p3l_base::{NoMemory, Outcome, Words};
-use p3l_firing::{Fired, Net, ProcKind};
+use p3l_firing::{Fired, Net, ProcKind, Shot};
 use p3l_ready::ReadySet;
 use p3l_skel::{Tree, Units};
 use std::alloc::Global;
@@ -56,8 +56,7 @@ impl<'t> Machine<'t> {
     {
         let sides = Sides::of(alloc, &net)?;
         let store = Store::start(alloc, tree, net)?;
-        let mut ready = ReadySet::new(alloc, store.size())?;
-        look_at_all(&store, &mut ready);
+        let ready = all_ready(alloc, &store)?;
         Ok(Machine {
             store,
             ready,
@@ -77,8 +76,7 @@ impl<'t> Machine<'t> {
     {
         let sides = Sides::of(alloc, &net)?;
         let store = Store::restore(alloc, tree, net, shot)?;
-        let mut ready = ReadySet::new(alloc, store.size())?;
-        look_at_all(&store, &mut ready);
+        let ready = all_ready(alloc, &store)?;
         Ok(Machine {
             store,
             ready,
@@ -102,21 +100,21 @@ impl<'t> Machine<'t> {
     pub fn size(&self) -> u32
         ensures { result ≡ length self.now.net.procs }
     {
-        self.store.size()
+        self.store.net.procs.len() as u32
     }
 
     /// The net that the machine was started with.
     pub fn net(&self) -> &Net
         ensures { result.now ≡ self.now.net }
     {
-        self.store.net()
+        &self.store.net
     }
 
     /// Returns true exactly if the inbox is empty.
     pub fn wants_item(&self) -> bool
         ensures { IsTrue result ↔ (self.now.inbox ≡ None) }
     {
-        self.store.wants_item()
+        self.store.inbox.is_none()
     }
 
     /// Puts an item of the root's in words into the empty inbox, for the source to send.
@@ -146,7 +144,7 @@ impl<'t> Machine<'t> {
         ensures state { (emitted : List Outcome) → HasEmitted self.now emitted
             → result ≡ can_fire self.now.tree self.now.net (state_of self.now emitted) p }
     {
-        !self.store.trapped() && self.ready.contains(p)
+        !self.store.trapped && self.ready.contains(p)
     }
 
     /// The process that writes a channel.
@@ -171,7 +169,7 @@ impl<'t> Machine<'t> {
     pub fn ready(&self) -> u32
         ensures { result ≡ length (ready_list self.now) }
     {
-        if self.store.trapped() {
+        if self.store.trapped {
             0
         } else {
             self.ready.count()
@@ -199,7 +197,7 @@ impl<'t> Machine<'t> {
         ensures state { (emitted : List Outcome) → HasEmitted self.now emitted
             → result ≡ next_of self.now.tree self.now.net (state_of self.now emitted) from }
     {
-        if self.store.trapped() {
+        if self.store.trapped {
             None
         } else {
             self.ready.next(from)
@@ -337,27 +335,27 @@ impl<'t> Machine<'t> {
     pub fn fired(&self) -> u64
         ensures { result ≡ self.now.fired }
     {
-        self.store.fired()
+        self.store.fired
     }
 
     /// The count of items that the source has sent.
     pub fn sent(&self) -> u64
         ensures { result ≡ self.now.sent }
     {
-        self.store.sent()
+        self.store.sent
     }
 
     /// The count of outcomes that the sink has emitted.
     pub fn emitted(&self) -> u64
         ensures { result ≡ self.now.emitted }
     {
-        self.store.emitted()
+        self.store.emitted
     }
 
     /// Returns true exactly if a trap was emitted.
     pub fn trapped(&self) -> bool
         ensures { result ≡ self.now.trapped }
     {
-        self.store.trapped()
+        self.store.trapped
     }
 }

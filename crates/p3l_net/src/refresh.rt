@@ -1,6 +1,7 @@
 // The ready set after a step.
 
 ghost use Rattle.std.specs.Prelude.{◌≡◌, ◌<◌, ◌+◌, ℕ, List, [], ◌∷◌, length, nat_le, slice_index, slice_set};
+ghost use Rattle.p3l_base.specs.Memory.{IfGiven};
 ghost use Rattle.p3l_firing.specs.State.{chan_at};
 ghost use Rattle.p3l_net.specs.Channel.{tokens_at};
 ghost use Rattle.p3l_net.specs.Machine.{IsSound};
@@ -8,7 +9,9 @@ ghost use Rattle.p3l_net.specs.Steps.{AgreesAt, AgreesBut, CanRefresh, HasEnds, 
 
 use crate::ends::Sides;
 use crate::store::Store;
+use p3l_base::NoMemory;
 use p3l_ready::ReadySet;
+use std::alloc::Global;
 
 // Looks again whether process `r` is ready.
 #[inline(always)]
@@ -118,13 +121,15 @@ pub(crate) fn refresh_run(
     look_at_reader(store, sides, ready, p, output);
 }
 
-/// Looks at all processes.
-pub(crate) fn look_at_all(store: &Store, ready: &mut ReadySet)
-    requires sound { IsSound store.now }
-    requires size { length ready.old ≡ length store.now.net.procs }
-    ensures { AgreesBut store.now ready.new [] }
+/// The set of the processes that are ready.
+pub(crate) fn all_ready(alloc: Global, store: &Store) -> Result<ReadySet, NoMemory>
+    requires { IsSound store.now }
+    ensures { IfGiven result (λ ready. AgreesBut store.now ready []) }
 {
-    for r in 0..store.size() {
-        look(store, ready, r);
+    let size = store.net.procs.len() as u32;
+    let mut ready = ReadySet::new(alloc, size)?;
+    for r in 0..size {
+        look(store, &mut ready, r);
     }
+    Ok(ready)
 }

@@ -1,4 +1,4 @@
--- What the body and the condition of the loop give has their words.
+-- The body and the condition of the loop give as many words as their nodes have outs.
 use Rattle.std.proofs.Common.{◌≡◌, ℕ, ℤ, zero, suc, ◌<◌, List, length, refl, arith}
 use Rattle.p3l_skel.specs.declared.tree.Form.TheVariants.{Seq}
 use Rattle.p3l_skel.specs.Tree.{GivesOuts, HasLength, node_at}

@@ -50,7 +50,7 @@ fn compare(rt: &impl Abort, machine: &Machine<'_>, wanted: &[(u32, Option<ProcKi
     }
 }
 
-// Where there is no item, nothing can fire.
+// Without an item, nothing can fire.
 const EMPTY: [(u32, Option<ProcKind>, bool); 7] = [
     (0, None, true),
     (1, None, true),
@@ -61,7 +61,7 @@ const EMPTY: [(u32, Option<ProcKind>, bool); 7] = [
     (2, Some(ProcKind::Run), false),
 ];
 
-// Where there is one, the source can fire alone.
+// With an item, the source alone can fire.
 const OFFERED: [(u32, Option<ProcKind>, bool); 8] = [
     (0, Some(ProcKind::Source), true),
     (0, None, false),

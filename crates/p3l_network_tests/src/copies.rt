@@ -3,7 +3,7 @@
 
 use crate::expected::{Expected, compare};
 use p3l_base::{Dim, Place};
-use p3l_sketch::{Array, Row, Shape};
+use p3l_sketch::{Array, NodeForm, Row};
 use std::test::Fail;
 
 const OF_TWO: Dim = Dim {
@@ -28,65 +28,65 @@ const PAIRS: [Array; 1] = [(0, &[OF_TWO, TWO_WORDS])];
 
 const FOURS: [Array; 1] = [(0, &[OF_TWO, FOUR_WORDS])];
 
-const HALVES: Shape = Shape::Map(None, 2, 1, &FOURS, &PAIRS);
+const HALVES: NodeForm = NodeForm::Map(None, 2, 1, &FOURS, &PAIRS);
 
-const JOINS: Shape = Shape::Map(None, 2, 1, &PAIRS, &SINGLES);
+const JOINS: NodeForm = NodeForm::Map(None, 2, 1, &PAIRS, &SINGLES);
 
 // Nodes of `seq` modules: of two words for two, and of two for one.
-const TWO: Row = (Shape::Seq, 2, 2, &[]);
+const TWO: Row = (NodeForm::Seq, 2, 2, &[]);
 
-const JOIN: Row = (Shape::Seq, 2, 1, &[]);
+const JOIN: Row = (NodeForm::Seq, 2, 1, &[]);
 
 const FARM_OF_FARM: [Row; 3] = [
-    (Shape::Farm(None), 2, 2, &[1]),
-    (Shape::Farm(None), 2, 2, &[2]),
+    (NodeForm::Farm(None), 2, 2, &[1]),
+    (NodeForm::Farm(None), 2, 2, &[2]),
     TWO,
 ];
 
 const MAP_OF_MAP: [Row; 3] = [(HALVES, 8, 4, &[1]), (JOINS, 4, 2, &[2]), JOIN];
 
 const FARM_OF_REDUCE: [Row; 3] = [
-    (Shape::Farm(None), 5, 1, &[1]),
-    (Shape::Reduce(None, 5, 1), 5, 1, &[2]),
+    (NodeForm::Farm(None), 5, 1, &[1]),
+    (NodeForm::Reduce(None, 5, 1), 5, 1, &[2]),
     JOIN,
 ];
 
 const FARM_OF_LOOP: [Row; 4] = [
-    (Shape::Farm(None), 2, 2, &[1]),
-    (Shape::Loop(12, 2), 2, 2, &[2, 3]),
+    (NodeForm::Farm(None), 2, 2, &[1]),
+    (NodeForm::Loop(12, 2), 2, 2, &[2, 3]),
     TWO,
     JOIN,
 ];
 
 const PIPE_OF_PIPE: [Row; 5] = [
-    (Shape::Pipe, 2, 1, &[1, 4]),
-    (Shape::Pipe, 2, 2, &[2, 3]),
+    (NodeForm::Pipe, 2, 1, &[1, 4]),
+    (NodeForm::Pipe, 2, 2, &[2, 3]),
     TWO,
     TWO,
     JOIN,
 ];
 
 const LOOP_OF_LOOP: [Row; 7] = [
-    (Shape::Loop(12, 3), 2, 2, &[1, 4]),
-    (Shape::Loop(12, 2), 2, 2, &[2, 3]),
+    (NodeForm::Loop(12, 3), 2, 2, &[1, 4]),
+    (NodeForm::Loop(12, 2), 2, 2, &[2, 3]),
     TWO,
     JOIN,
-    (Shape::Comp, 2, 1, &[5, 6]),
+    (NodeForm::Comp, 2, 1, &[5, 6]),
     TWO,
     JOIN,
 ];
 
 const COMP_OF_MAP: [Row; 4] = [
-    (Shape::Comp, 4, 1, &[1, 3]),
+    (NodeForm::Comp, 4, 1, &[1, 3]),
     (JOINS, 4, 2, &[2]),
     JOIN,
     JOIN,
 ];
 
 const LOOP_BY_REDUCE: [Row; 4] = [
-    (Shape::Loop(12, 3), 2, 2, &[1, 2]),
+    (NodeForm::Loop(12, 3), 2, 2, &[1, 2]),
     TWO,
-    (Shape::Reduce(None, 2, 1), 2, 1, &[3]),
+    (NodeForm::Reduce(None, 2, 1), 2, 1, &[3]),
     JOIN,
 ];
 

@@ -1,4 +1,4 @@
-// What a net is expected to be.
+// Expected nets.
 
 use p3l_base::NoMemory;
 use p3l_firing::{Net, Proc};

@@ -84,7 +84,7 @@ const SPENT: [(u32, u32); 12] = [
     (1, 0b0),
 ];
 
-/// What a network hands out: items of these words, or one trap.
+/// Expected results of a network: items of these words, or one trap.
 #[derive(Clone, Copy)]
 enum Expected<'a> {
     Words(&'a [&'a [i64]]),

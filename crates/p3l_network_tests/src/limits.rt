@@ -6,7 +6,7 @@ use p3l_firing::Net;
 use p3l_link::{is_linked, link};
 use p3l_model::{is_outside, procs};
 use p3l_skel::{Counts, Tree, lawful_counts, lawful_tree};
-use p3l_sketch::{Array, Row, Shape, counts_of, tree_of};
+use p3l_sketch::{Array, NodeForm, Row, counts_of, tree_of};
 use std::alloc::Global;
 use std::process::Abort;
 use std::test::Fail;
@@ -14,13 +14,13 @@ use std::test::Fail;
 /// The nodes of a tree, the numbers of its workers, and the processes and channels of its net.
 type Sizes = (&'static [Row], &'static [u32], usize, usize);
 
-const ONE: Row = (Shape::Seq, 1, 1, &[]);
+const ONE: Row = (NodeForm::Seq, 1, 1, &[]);
 
 /// A farm of pipes of seven, before another farm.
 const FARMS: [Row; 12] = [
-    (Shape::Pipe, 1, 1, &[1, 10]),
-    (Shape::Farm(None), 1, 1, &[2]),
-    (Shape::Pipe, 1, 1, &[3, 4, 5, 6, 7, 8, 9]),
+    (NodeForm::Pipe, 1, 1, &[1, 10]),
+    (NodeForm::Farm(None), 1, 1, &[2]),
+    (NodeForm::Pipe, 1, 1, &[3, 4, 5, 6, 7, 8, 9]),
     ONE,
     ONE,
     ONE,
@@ -28,7 +28,7 @@ const FARMS: [Row; 12] = [
     ONE,
     ONE,
     ONE,
-    (Shape::Farm(None), 1, 1, &[11]),
+    (NodeForm::Farm(None), 1, 1, &[11]),
     ONE,
 ];
 
@@ -40,13 +40,13 @@ const PIECES: Dim = Dim {
 const WORDS: [Array; 1] = [(0, &[PIECES])];
 
 const MAP: [Row; 2] = [
-    (Shape::Map(None, 512, 1, &WORDS, &WORDS), 512, 512, &[1]),
+    (NodeForm::Map(None, 512, 1, &WORDS, &WORDS), 512, 512, &[1]),
     ONE,
 ];
 
 const REDUCE: [Row; 2] = [
-    (Shape::Reduce(None, 512, 1), 512, 1, &[1]),
-    (Shape::Seq, 2, 1, &[]),
+    (NodeForm::Reduce(None, 512, 1), 512, 1, &[1]),
+    (NodeForm::Seq, 2, 1, &[]),
 ];
 
 /// With source and sink, and their channels. The first has 4,096 processes of its own: 512 pipes of 7

@@ -81,7 +81,8 @@ fn counted(alloc: Global, words: &Words) -> Result<Outcome, NoMemory>
     Ok(Outcome::Value(both))
 }
 
-/// What counts down, and tests the first word. Other nodes, which the tests don't run, are refused.
+/// Units that count down, and test the first word. Other nodes, which the tests don't run, are
+/// refused.
 pub struct CountsDown;
 
 impl Units for CountsDown {

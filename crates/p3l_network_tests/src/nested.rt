@@ -2,14 +2,14 @@
 
 use crate::expected::{Expected, compare};
 use crate::maps::MAP_OF_PAIRS;
-use p3l_sketch::{Row, Shape};
+use p3l_sketch::{NodeForm, Row};
 use std::test::Fail;
 
 const FARM_IN_PIPE: [Row; 4] = [
-    (Shape::Pipe, 1, 1, &[1, 2]),
-    (Shape::Seq, 1, 1, &[]),
-    (Shape::Farm(None), 1, 1, &[3]),
-    (Shape::Seq, 1, 1, &[]),
+    (NodeForm::Pipe, 1, 1, &[1, 2]),
+    (NodeForm::Seq, 1, 1, &[]),
+    (NodeForm::Farm(None), 1, 1, &[3]),
+    (NodeForm::Seq, 1, 1, &[]),
 ];
 
 const STAGE: Expected = (
@@ -35,10 +35,10 @@ fn a_farm_is_a_stage(rt: HostRuntime) -> Result<(), Fail> {
 }
 
 const FARM_IN_LOOP: [Row; 4] = [
-    (Shape::Loop(10, 4), 2, 2, &[1, 3]),
-    (Shape::Farm(Some(2)), 2, 2, &[2]),
-    (Shape::Seq, 2, 2, &[]),
-    (Shape::Seq, 2, 1, &[]),
+    (NodeForm::Loop(10, 4), 2, 2, &[1, 3]),
+    (NodeForm::Farm(Some(2)), 2, 2, &[2]),
+    (NodeForm::Seq, 2, 2, &[]),
+    (NodeForm::Seq, 2, 1, &[]),
 ];
 
 const BODY: Expected = (
@@ -63,10 +63,10 @@ fn a_farm_is_the_body_of_a_loop(rt: HostRuntime) -> Result<(), Fail> {
 
 const PIPE_IN_MAP: [Row; 5] = [
     (MAP_OF_PAIRS, 8, 4, &[1]),
-    (Shape::Pipe, 2, 1, &[2, 4]),
-    (Shape::Reduce(None, 2, 1), 2, 1, &[3]),
-    (Shape::Seq, 2, 1, &[]),
-    (Shape::Seq, 1, 1, &[]),
+    (NodeForm::Pipe, 2, 1, &[2, 4]),
+    (NodeForm::Reduce(None, 2, 1), 2, 1, &[3]),
+    (NodeForm::Seq, 2, 1, &[]),
+    (NodeForm::Seq, 1, 1, &[]),
 ];
 
 // The map's channels are 2 to 5. The first copy of the pipe has channel 6 between its stages, and its

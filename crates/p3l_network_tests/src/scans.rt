@@ -3,17 +3,17 @@
 use p3l_model::firings;
 use p3l_scan::{ScanRefusal, can_scan, scan_plan};
 use p3l_skel::lawful_tree;
-use p3l_sketch::{Row, Shape, tree_of};
+use p3l_sketch::{NodeForm, Row, tree_of};
 use std::alloc::Global;
 use std::process::Abort;
 use std::test::Fail;
 
 const FOUR: [Row; 2] = [
-    (Shape::Reduce(None, 4, 1), 4, 1, &[1]),
-    (Shape::Seq, 2, 1, &[]),
+    (NodeForm::Reduce(None, 4, 1), 4, 1, &[1]),
+    (NodeForm::Seq, 2, 1, &[]),
 ];
 
-const ONE: [Row; 1] = [(Shape::Seq, 1, 1, &[])];
+const ONE: [Row; 1] = [(NodeForm::Seq, 1, 1, &[])];
 
 type Planned = Result<u64, ScanRefusal>;
 
@@ -26,7 +26,7 @@ const PLANS: [(&[Row], u32, Planned); 6] = [
     (&ONE, 1, Err(ScanRefusal::NotReduce)),
 ];
 
-// How often the plan of these rows in this number of segments fires for an item.
+// Returns the number of firings for an item of the plan of these rows in this number of segments.
 fn planned(rt: &impl Abort, alloc: Global, rows: &[Row], segments: u32) -> Result<Planned, Fail> {
     let tree = tree_of(alloc, rows)?;
     assert!(rt; lawful_tree(&tree));

@@ -2,20 +2,20 @@
 
 use crate::expected::{Expected, compare};
 use crate::maps::MAP_OF_WORDS;
-use p3l_sketch::{Row, Shape};
+use p3l_sketch::{NodeForm, Row};
 use std::test::Fail;
 
-const SEQ: [Row; 1] = [(Shape::Seq, 1, 1, &[])];
+const SEQ: [Row; 1] = [(NodeForm::Seq, 1, 1, &[])];
 
 const COMP: [Row; 3] = [
-    (Shape::Comp, 1, 1, &[1, 2]),
-    (Shape::Seq, 1, 2, &[]),
-    (Shape::Seq, 2, 1, &[]),
+    (NodeForm::Comp, 1, 1, &[1, 2]),
+    (NodeForm::Seq, 1, 2, &[]),
+    (NodeForm::Seq, 2, 1, &[]),
 ];
 
 const REDUCE: [Row; 2] = [
-    (Shape::Reduce(None, 5, 1), 5, 1, &[1]),
-    (Shape::Seq, 2, 1, &[]),
+    (NodeForm::Reduce(None, 5, 1), 5, 1, &[1]),
+    (NodeForm::Seq, 2, 1, &[]),
 ];
 
 const ONE_PROCESS: &str = "Source 0 0 [] [0]\n\
@@ -35,10 +35,10 @@ fn a_unit_is_one_process(rt: HostRuntime) -> Result<(), Fail> {
 }
 
 const PIPE: [Row; 4] = [
-    (Shape::Pipe, 1, 1, &[1, 2, 3]),
-    (Shape::Seq, 1, 2, &[]),
-    (Shape::Seq, 2, 3, &[]),
-    (Shape::Seq, 3, 1, &[]),
+    (NodeForm::Pipe, 1, 1, &[1, 2, 3]),
+    (NodeForm::Seq, 1, 2, &[]),
+    (NodeForm::Seq, 2, 3, &[]),
+    (NodeForm::Seq, 3, 1, &[]),
 ];
 
 const STAGES: Expected = (
@@ -58,9 +58,12 @@ fn a_pipe_has_a_channel_between_two_stages(rt: HostRuntime) -> Result<(), Fail> 
     compare(&rt, rt.alloc(), &[STAGES])
 }
 
-const FARM: [Row; 2] = [(Shape::Farm(None), 1, 1, &[1]), (Shape::Seq, 1, 1, &[])];
+const FARM: [Row; 2] = [
+    (NodeForm::Farm(None), 1, 1, &[1]),
+    (NodeForm::Seq, 1, 1, &[]),
+];
 
-const MAP: [Row; 2] = [(MAP_OF_WORDS, 4, 4, &[1]), (Shape::Seq, 1, 1, &[])];
+const MAP: [Row; 2] = [(MAP_OF_WORDS, 4, 4, &[1]), (NodeForm::Seq, 1, 1, &[])];
 
 const WORKERS: [Expected; 2] = [
     (
@@ -95,8 +98,8 @@ fn workers_stand_between_two_processes(rt: HostRuntime) -> Result<(), Fail> {
 }
 
 const REDUCE_OF_FOUR: [Row; 2] = [
-    (Shape::Reduce(Some(4), 5, 1), 5, 1, &[1]),
-    (Shape::Seq, 2, 1, &[]),
+    (NodeForm::Reduce(Some(4), 5, 1), 5, 1, &[1]),
+    (NodeForm::Seq, 2, 1, &[]),
 ];
 
 // The segments have 1, 1, 1 and 2 elements; their channels are 2 to 5, and those of the places 2 to 7
@@ -124,9 +127,9 @@ fn segments_are_joined_two_by_two(rt: HostRuntime) -> Result<(), Fail> {
 }
 
 const LOOP: [Row; 3] = [
-    (Shape::Loop(10, 3), 2, 2, &[1, 2]),
-    (Shape::Seq, 2, 2, &[]),
-    (Shape::Seq, 2, 1, &[]),
+    (NodeForm::Loop(10, 3), 2, 2, &[1, 2]),
+    (NodeForm::Seq, 2, 2, &[]),
+    (NodeForm::Seq, 2, 1, &[]),
 ];
 
 const WAY_BACK: Expected = (

@@ -173,7 +173,8 @@ fn checked_word(alloc: Global, words: &Words) -> Result<Outcome, NoMemory>
     checked(alloc, word(words, 0))
 }
 
-/// What checks the elements of the map. Other nodes are not run by the tests: they are refused.
+/// Units that check the elements of the map. Other nodes are not run by the tests: they are
+/// refused.
 pub struct Checks;
 
 impl Units for Checks {
@@ -230,7 +231,7 @@ fn difference_of_three(alloc: Global, words: &Words) -> Result<Outcome, NoMemory
     }
 }
 
-/// What folds segments of two or three words by differences, and subtracts. Other segments are
+/// Units that fold segments of two or three words by differences, and subtract. Other segments are
 /// refused: the tests have none.
 pub struct Subtracts;
 
@@ -257,8 +258,8 @@ impl Units for Subtracts {
     }
 }
 
-/// What traps on any two words, so that only segments of one word have a value. Other segments are
-/// refused: the tests have none.
+/// Units that trap on any two words, so that only segments of one word have a value. Other segments
+/// are refused: the tests have none.
 pub struct Refuses;
 
 impl Units for Refuses {

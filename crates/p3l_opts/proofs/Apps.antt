@@ -8,7 +8,7 @@ use Rattle.clap.proofs.OnLiterals.{clap_on_literals}
 use Rattle.p3l_opts.specs.App.{app_for, faults, rows}
 use Rattle.p3l_opts.specs.Table.{Entry, entries, entry_named}
 
--- what all elements are, one that is found is
+-- an element that is found has the property of all elements
 found_is : {A : Type 0} (test is : A → Bool) (xs : List A) (x : A) → list_all is xs ≡ true → find test xs ≡ Some x → is x ≡ true
 found_is test is [] x every found = absurd cc
 found_is {A} test is (y ∷ ys) x every found = by (test y) (is y) refl refl (found_is test is ys x)

@@ -12,7 +12,7 @@ use Rattle.std.proofs.lemmas.Fmt.{parse-decimal, first_decimal, digits_decimal, 
 digits : IsNumeralModel (AllDigits 10) (digits_value 10)
 digits = numerals_by_value (AllDigits 10) tells_digits
 
--- what is parsed after a first digit from 1 to 9 is spelled in decimal
+-- digits that begin with 1 to 9 are the decimal spelling of their value
 spelled : (x : ℕ) (ds : List ℕ) → AllDigits 10 ds → 0 < length ds → 48 < get_or ds 0 0 → digits_value 10 ds < 2 ^ 64 → x ≡ digits_value 10 ds → (1 ≤ x) × (x < 2 ^ 64) × (ds ≡ decimal x)
 spelled x ds all some first fits e =
     let back : decimal (digits_value 10 ds) ≡ ds = decimal-digits_value digits ds all some (λ z. absurd (omega arith)) (omega arith) in
@@ -31,7 +31,7 @@ parsed {E} ds (Ok x) (Some n) p h e =
     let same : n ≡ x = cc in
     spelled n ds q.0.0 q.0.1 h q.0.2 (same ∙ q.1)
 
--- what isn't parsed there is no number
+-- digits that aren't parsed spell no number above 0
 pub unparsed : {E : Type 0} (ds : List ℕ) (r : Result ℕ E) (o : Option ℕ) → ParsesUnsigned 64 10 ds r → o ≡ result_ok r → IfNone o ((n : ℕ) → 1 ≤ n → n < 2 ^ 64 → ds ≡ decimal n → ⊥)
 unparsed ds r (Some n) p e = tt
 unparsed {E} ds r None p e = λ n low high same. (
@@ -57,7 +57,7 @@ not_greater m n ds h high p q =
 pub zero_digit : (word : List ℕ) → word ≡ 48 ∷ [] → (0 < 2 ^ 64) × (word ≡ decimal 0)
 zero_digit word is = (omega arith, is ∙ sym (decimal_digit 0 (omega arith)))
 
--- what is no number above 0 and isn't so is no number
+-- a word that spells no number above 0 and isn't `0` spells no number
 pub no_number : (o : Option ℕ) (word : List ℕ) → IfNone o ((n : ℕ) → 1 ≤ n → n < 2 ^ 64 → word ≡ decimal n → ⊥) → (word ≡ 48 ∷ [] → ⊥) → IfNone o ((n : ℕ) → n < 2 ^ 64 → word ≡ decimal n → ⊥)
 no_number (Some n) word above other = tt
 no_number None word above other = by

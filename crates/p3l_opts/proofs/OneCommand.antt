@@ -89,7 +89,7 @@ one_exported found a b p q = λ i. record {
 built : {found : List Row} {capacity : Option Text} {a b : Build} → HasBuild PROCESSORS found capacity a → HasBuild PROCESSORS found capacity b → a ≡ b
 built p q = one_build PROCESSORS _ _ _ _ (omega arith) p q
 
--- what was found are the values of one command of a verb
+-- the rows found are the values of at most one command of a verb
 one_command : (found : List Row) (a b : Command) → verb_of a ≡ verb_of b → HasValues found a → HasValues found b → a ≡ b
 one_command found (command.Check p) (command.Check q) v ha hb = ap command.Check (one_name _ _ _ ha hb)
 one_command found (command.Fmt p) (command.Fmt q) v ha hb = ap command.Fmt (one_name _ _ _ ha hb)

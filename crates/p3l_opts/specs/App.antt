@@ -1,4 +1,4 @@
--- How `clap` reads the words of a command.
+-- The rules by which `clap` reads the words of a command.
 use Rattle.std.specs.Prelude.{List, Some, fold, true}
 use Rattle.clap.specs.Words.{App, Kinds, Row, Rule, Text, fault_of, matches_of, new_app, new_rule, with_rule}
 use Rattle.clap.specs.declared.builder.action.ArgAction.TheVariants.{SetTrue}
@@ -7,7 +7,7 @@ use Rattle.p3l_opts.specs.declared.word.Word.TheVariants.{Positional, Mandatory,
 use Rattle.p3l_opts.specs.Table.{Entry}
 use Rattle.p3l_opts.specs.Word.{name_of}
 
--- what is declared to `clap` of a word
+-- the rule declared to `clap` for a word
 abbrev pub rule_for : Word → Rule
 rule_for (Positional value) = record (new_rule (name_of value)) { required = true }
 rule_for (Mandatory value) = record (new_rule (name_of value)) { long = Some (name_of value); required = true }
@@ -26,6 +26,6 @@ app_for entry = fold with_word (new_app entry.1) entry.2
 unfoldable pub faults : Entry → List Text → Kinds
 faults entry words = fault_of (app_for entry) words
 
--- what `clap` finds in the words that it takes
+-- the rows that `clap` finds in the words that it takes
 unfoldable pub rows : Entry → List Text → List Row
 rows entry words = matches_of (app_for entry) words

@@ -103,23 +103,23 @@ pub record HasPriced (range : Range) (found : List Row) (program : Text) (proces
   pub processors_are : HasCount range (text_of Processors found) processors
   pub costs_are : costs ≡ text_of Costs found
 
--- how a network is built, where processors have this range and this is the text of its capacity
+-- the rows request this build, if processors have this range and capacity has this text
 pub record HasBuild (range : Range) (found : List Row) (capacity : Option Text) (build : Build) : Type 0 where
   pub priced : HasPriced range found build.program build.processors build.costs
   pub capacity_is : HasCount CAPACITY capacity build.capacity
 
--- which program is exported, and by what its file is made
+-- the rows request this export of a program
 pub record HasExported (found : List Row) (exported : Exported) : Type 0 where
   pub priced : HasPriced PROCESSORS found exported.program exported.processors exported.costs
   pub capacity_is : HasChoice (text_of Capacity found) exported.capacity
 
--- how a run goes on
+-- the rows request this schedule, trace and report of a run
 pub record HasRun (found : List Row) (schedule : Sched) (trace : Option Text) (stats : Bool) : Type 0 where
   pub picks : HasSchedule (text_of Schedule found) schedule
   pub traced : trace ≡ text_of Trace found
   pub reported : stats ≡ says_true (text_of Stats found)
 
--- what is generated, and how it is run
+-- the rows request this generated program and its run
 pub record HasGen (found : List Row) (number processors items : ℕ) (schedule : Sched) (save : Option Text) : Type 0 where
   pub number_is : HasNumber (text_of Number found) number
   pub processors_are : HasCount PROCESSORS (text_of Processors found) processors
@@ -128,7 +128,7 @@ pub record HasGen (found : List Row) (number processors items : ℕ) (schedule :
   pub made : IsMade schedule
   pub saved : save ≡ text_of Save found
 
--- what is scanned in this number of segments, and how that is run
+-- the rows request this scan in a number of segments, and its run
 pub record HasScan (found : List Row) (program : Text) (segments : ℕ) (schedule : Sched) (capacity : ℕ) (stats : Bool) : Type 0 where
   pub program_is : text_of Program found ≡ Some program
   pub segments_are : HasCount SEGMENTS (text_of Segments found) segments
@@ -136,7 +136,7 @@ pub record HasScan (found : List Row) (program : Text) (segments : ℕ) (schedul
   pub capacity_is : HasCount CAPACITY (text_of Capacity found) capacity
   pub reported : stats ≡ says_true (text_of Stats found)
 
--- how a network is built, in which file its picks stand and into which one its state is written
+-- the rows request this build, this file of its picks and this file for its state
 pub record HasSave (found : List Row) (build : Build) (picks output : Text) : Type 0 where
   pub build_is : HasBuild PROCESSORS found (text_of Capacity found) build
   pub recorded : HasSchedule (text_of Recorded found) (sched.File picks)

@@ -1,4 +1,4 @@
--- What holds of all words.
+-- Laws that hold for all words.
 use Rattle.std.specs.Prelude.{◌≡◌, List}
 use Rattle.clap.specs.Words.{Text}
 use Rattle.p3l_opts.specs.declared.command.Command.{Command}

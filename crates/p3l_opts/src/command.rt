@@ -147,7 +147,7 @@ pub struct Exported {
     pub processors: u32,
     /// The name of the file of costs; without one, the standard costs hold.
     pub costs: Option<Name>,
-    /// How many tokens a channel holds at most, 1 to 1,024; without one, a capacity is chosen for
+    /// The capacity of every channel in tokens, 1 to 1,024; without one, a capacity is chosen for
     /// each channel.
     pub capacity: Option<u32>,
 }

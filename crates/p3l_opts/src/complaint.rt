@@ -16,7 +16,7 @@ use std::alloc::Global;
 
 /// A form that a value must have.
 #[derive(Clone, Copy, Drop)]
-enum Form {
+enum ValueForm {
     /// Any text.
     Text,
     /// A number from 1 to this one.
@@ -43,7 +43,7 @@ pub fn complaint_on(alloc: Global, words: &[&str]) -> Result<Option<String>, NoM
     }
 }
 
-/// Says what is wrong with words of which the first names this command.
+/// Describes the fault of words that begin with the name of this command.
 fn complaint_of(alloc: Global, listed: Entry, words: &[&str]) -> Result<Option<String>, NoMemory>
     ensures { OnErr result (Refused ⊎ ClapWanted) }
 {
@@ -107,25 +107,25 @@ fn spells_schedule(alloc: Global, text: &str) -> Result<bool, NoMemory>
 
 impl Value {
     /// Returns the form of the value.
-    fn form(self) -> Form {
+    fn form(self) -> ValueForm {
         match self {
-            Value::Processors => Form::Count(PROCESSORS.most),
-            Value::Segments => Form::Count(SEGMENTS.most),
-            Value::Capacity => Form::Count(CAPACITY.most),
-            Value::Items => Form::Count(ITEMS.most),
-            Value::Number => Form::Number,
-            Value::Schedule => Form::Schedule,
-            Value::Recorded => Form::Picks,
-            _ => Form::Text,
+            Value::Processors => ValueForm::Count(PROCESSORS.most),
+            Value::Segments => ValueForm::Count(SEGMENTS.most),
+            Value::Capacity => ValueForm::Count(CAPACITY.most),
+            Value::Items => ValueForm::Count(ITEMS.most),
+            Value::Number => ValueForm::Number,
+            Value::Schedule => ValueForm::Schedule,
+            Value::Recorded => ValueForm::Picks,
+            _ => ValueForm::Text,
         }
     }
 }
 
-impl Form {
+impl ValueForm {
     /// Tells whether the values are counts.
     fn is_count(self) -> bool {
         match self {
-            Form::Count(_) => true,
+            ValueForm::Count(_) => true,
             _ => false,
         }
     }
@@ -135,11 +135,11 @@ impl Form {
         ensures { OnErr result Refused }
     {
         match self {
-            Form::Text => Ok(true),
-            Form::Count(most) => Ok(count_of(text, most).is_some()),
-            Form::Number => Ok(number_in(text).is_some()),
-            Form::Schedule => spells_schedule(alloc, text),
-            Form::Picks => Ok(text.starts_with("file:") && spells_schedule(alloc, text)?),
+            ValueForm::Text => Ok(true),
+            ValueForm::Count(most) => Ok(count_of(text, most).is_some()),
+            ValueForm::Number => Ok(number_in(text).is_some()),
+            ValueForm::Schedule => spells_schedule(alloc, text),
+            ValueForm::Picks => Ok(text.starts_with("file:") && spells_schedule(alloc, text)?),
         }
     }
 
@@ -148,12 +148,14 @@ impl Form {
         ensures { OnErr result Refused }
     {
         let complaint = match self {
-            Form::Count(most) => {
+            ValueForm::Count(most) => {
                 format!(in alloc; "error: {id}: '{text}' is no number from 1 to {most}\n")
             }
-            Form::Number => format!(in alloc; "error: {id}: '{text}' is no number of 32 bits\n"),
-            Form::Picks => format!(in alloc; "error: --{id}: '{text}' is not file:NAME\n"),
-            Form::Schedule | Form::Text => {
+            ValueForm::Number => format!(in alloc;
+                "error: {id}: '{text}' is no number of 32 bits\n"
+            ),
+            ValueForm::Picks => format!(in alloc; "error: --{id}: '{text}' is not file:NAME\n"),
+            ValueForm::Schedule | ValueForm::Text => {
                 format!(in alloc; "error: --{id}: '{text}' is not rr, seed:N or file:NAME\n")
             }
         };

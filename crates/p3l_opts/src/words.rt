@@ -34,7 +34,7 @@ pub fn parse(alloc: Global, words: &[&str]) -> Result<Command, OptsRefusal>
     }
 }
 
-/// The command that the words spell, of which the first names this one.
+/// The command that the words spell, if the first word names this one.
 fn parse_after(
     alloc: Global,
     first: &str,

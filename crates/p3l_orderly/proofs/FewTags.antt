@@ -5,12 +5,13 @@ use Rattle.p3l_skel.specs.declared.tree.Tree.{Tree}
 use Rattle.p3l_skel.specs.Counts.{count_of}
 use Rattle.p3l_skel.specs.Tree.{nesting, part_at}
 use Rattle.p3l_firing.specs.Token.{most_tags}
+use Rattle.p3l_firing.specs.Shot.{HaveFewTags}
 use Rattle.p3l_firing.specs.declared.net.Net.{Net}
+use Rattle.p3l_firing.specs.declared.shot.Shot.{Shot}
 use Rattle.p3l_net.specs.Fitting.{Fitting}
-use Rattle.p3l_net.specs.declared.shot.Shot.{Shot}
 use Rattle.p3l_net.proofs.Saving.{fits_held}
 use Rattle.p3l_template.specs.Kind.{Kind}
-use Rattle.p3l_template.specs.Shape.{Base, Seat}
+use Rattle.p3l_template.specs.Shape.{Base, Slot}
 use Rattle.p3l_template.specs.Tagged.{IsNear}
 use Rattle.p3l_template.specs.Width.{width_at}
 use Rattle.p3l_template.specs.declared.width.Width.{Width}
@@ -19,7 +20,6 @@ use Rattle.p3l_link.specs.Shape.{kind_at}
 use Rattle.p3l_link.proofs.AnyKind.{tagged_at}
 use Rattle.p3l_fitting.specs.Survey.{inner_survey, linked_loops, linked_survey, linked_widths, node_survey}
 use Rattle.p3l_fitting.specs.declared.survey.Survey.{Survey}
-use Rattle.p3l_orderly.specs.Saved.{HaveFewTags}
 use Rattle.p3l_orderly.proofs.SavedSteps.{few_of_held}
 
 abbrev IsFew : ℕ → Width → Type 0
@@ -42,8 +42,8 @@ few_near : (most t : ℕ) (row : List Width) → t + 2 ≤ most → AllByRecursi
 few_near most t [] low near = tt
 few_near most t (x ∷ xs) low near = (omega (arith, low, near.0.1), few_near most t xs low near.1)
 
-few_inner : (most : ℕ) (g : ℕ → Base → Survey) → ((v : ℕ) (b : Base) → AreFew most (g v b).widths) → (seats : List Seat) (p c : ℕ) →
-    AreFew most (inner_survey g seats p c).widths
+few_inner : (most : ℕ) (g : ℕ → Base → Survey) → ((v : ℕ) (b : Base) → AreFew most (g v b).widths) → (slots : List Slot) (p c : ℕ) →
+    AreFew most (inner_survey g slots p c).widths
 unfolding inner_survey
 few_inner most g each [] p c = tt
 few_inner most g each (x ∷ xs) p c = few_append most _ _ (each x.part (base_at x p c)) (few_inner most g each xs _ _)
@@ -58,7 +58,7 @@ few_node tree count most (suc d) k t base low =
     let shallow = tagged.shallow in
     few_append most (kind.widths tree k t) _ (few_near most t (kind.widths tree k t) (omega (arith, low)) (tagged.near t))
     (few_inner most (λ v. node_survey tree count d (part_at tree k v) (t + kind.deeper))
-    (λ v b. few_node tree count most d (part_at tree k v) (t + kind.deeper) b (omega (arith, low, shallow))) (kind.shape.seats base) _ _)
+    (λ v b. few_node tree count most d (part_at tree k v) (t + kind.deeper) b (omega (arith, low, shallow))) (kind.shape.slots base) _ _)
 
 few_linked : (tree : Tree) (counts : List ℕ) (c : ℕ) → (linked_widths tree counts).tags c ≤ most_tags
 unfolding linked_survey

@@ -1,4 +1,4 @@
--- The root in the state of a machine that is restored is what the walk finds of the snapshot.
+-- The root in the state of a machine that is restored is what the walk finds in the snapshot.
 use Rattle.std.proofs.Common.{◌≡◌, ◌↔◌, ℕ, zero, suc, ◌+◌, ◌≤◌, Bool, true, false, IsTrue, Option, Some, None, cond, List, [], ◌∷◌, map, length, get_or, refl, sym, ap, ap₂, ◌∙◌, arith}
 use Rattle.std.specs.Option.{option_to_list}
 use Rattle.p3l_base.specs.declared.outcome.Outcome.TheVariants.{Trapped}
@@ -8,15 +8,18 @@ use Rattle.p3l_skel.specs.Counts.{HasLawfulCounts, count_of}
 use Rattle.p3l_skel.specs.Lawful.{IsLawfulTree}
 use Rattle.p3l_skel.specs.Numbers.{procs}
 use Rattle.p3l_skel.specs.Tree.{nesting}
-use Rattle.p3l_firing.specs.Carried.{HaveInWords}
+use Rattle.p3l_firing.specs.NetInvariants.{HaveInWords}
 use Rattle.p3l_firing.specs.Nodes.{Leaf}
-use Rattle.p3l_firing.specs.State.{State}
+use Rattle.p3l_firing.specs.Shot.{own_of, state_of, token_of}
+use Rattle.p3l_firing.specs.State.{State, own_at}
 use Rattle.p3l_firing.specs.declared.net.Chan.{Chan}
 use Rattle.p3l_firing.specs.declared.net.Net.{Net}
+use Rattle.p3l_firing.specs.declared.shot.Own.{Own as SavedOwn}
+use Rattle.p3l_firing.specs.declared.shot.SavedToken.{SavedToken}
+use Rattle.p3l_firing.specs.declared.shot.Shot.{Shot}
 use Rattle.p3l_firing.specs.declared.token.Token.{Token}
 use Rattle.p3l_template.specs.Finding.{Finding, bares, finding_of, if_orderly}
 use Rattle.p3l_template.specs.Part.{Part}
-use Rattle.p3l_template.specs.Snapshot.{state_of}
 use Rattle.p3l_template.specs.Units.{Units}
 use Rattle.p3l_template.specs.laws.BareLaw.{bares-length}
 use Rattle.p3l_link.specs.Laws.{IsLinkable}
@@ -27,12 +30,9 @@ use Rattle.p3l_link.proofs.LinkedLaws.{root_part_is}
 use Rattle.p3l_link.proofs.Size.{piece_sized}
 use Rattle.p3l_net.specs.Channel.{tokens_at}
 use Rattle.p3l_net.specs.Machine.{state_of as state_in}
-use Rattle.p3l_net.specs.Shot.{queues_of, restored, token_of}
-use Rattle.p3l_net.specs.declared.shot.SavedToken.{SavedToken}
-use Rattle.p3l_net.specs.declared.shot.Shot.{Shot}
+use Rattle.p3l_net.specs.Shot.{queues_of, restored}
 use Rattle.p3l_orderly.specs.declared.walk.Found.{Found}
 use Rattle.p3l_orderly.specs.Root.{IsOrderlyShot}
-use Rattle.p3l_orderly.specs.Saved.{snapshot_of}
 use Rattle.p3l_orderly.specs.Walked.{HasRoomAt, found_to, walk_found, walk_piece}
 use Rattle.p3l_orderly.proofs.WalkLaw.{node_is_found}
 use Rattle.p3l_orderly.proofs.WalkSteps.{found_of}
@@ -46,7 +46,7 @@ root_room tree counts lawful fit few =
     let c = sized.chans in
     (omega (arith, p, few), omega (arith, c, few))
 
--- what is pending in the root, where something was found of it
+-- the tokens pending in the root, if something was found of it
 pub root_some : (f : Finding) (p c : ℕ) (x : Found) → Some x ≡ found_to f p c → Some x.pending ≡ if_orderly f
 unfolding if_orderly found_to
 root_some f p c x e = go f.orderly e
@@ -88,7 +88,7 @@ if_none f e = go f.orderly e
     go false h = refl
 
 queue_tokens : (chans : List Chan) (lists : List (List SavedToken)) (c : ℕ) → length lists ≡ length chans →
-    tokens_at (queues_of chans lists) c ≡ get_or (map (map token_of) lists) c []
+    tokens_at (queues_of chans lists) c ≡ map token_of (get_or lists c [])
 unfolding queues_of
 queue_tokens [] [] c e = refl
 queue_tokens [] (l ∷ ls) c e = absurd (omega (arith, e))
@@ -96,17 +96,22 @@ queue_tokens (chan ∷ chans) [] c e = absurd (omega (arith, e))
 queue_tokens (chan ∷ chans) (l ∷ ls) zero e = refl
 queue_tokens (chan ∷ chans) (l ∷ ls) (suc c) e = queue_tokens chans ls c (omega (arith, e))
 
+own_restored : (owns : List SavedOwn) (p : ℕ) → own_at (map own_of owns) p ≡ own_of (get_or owns p (record { number = 0; held = [] }))
+own_restored [] p = refl
+own_restored (o ∷ os) zero = refl
+own_restored (o ∷ os) (suc p) = own_restored os p
+
 -- two states with the same tokens in all channels and processes
 record IsSame (s t : State) : Type 0 where
   tokens : (c : ℕ) → t.tokens c ≡ s.tokens c
   own : (p : ℕ) → t.own p ≡ s.own p
 
 restored_same : (tree : Tree) (net : Net) (shot : Shot) → length shot.chans ≡ length net.chans →
-    IsSame (state_of (snapshot_of shot)) (state_in (restored tree net shot) [])
-unfolding state_of state_in restored
+    IsSame (state_of shot) (state_in (restored tree net shot) [])
+unfolding state_in restored
 restored_same tree net shot lists = record {
   tokens = λ c. queue_tokens net.chans shot.chans c lists;
-  own = λ p. refl;
+  own = own_restored shot.owns;
 }
 
 -- a leaf that is always in its place: it traps
@@ -118,7 +123,7 @@ module _ (tree : Tree) (counts : List ℕ) (lawful : IsLawfulTree tree) (fit : H
   unfolding trapping
   linkable = record { lawful = lawful; fit = fit; room = omega arith; gives = λ node words there form long. tt }
 
-  -- what is found in the root depends on tokens alone
+  -- the finding in the root depends on tokens alone
   same_found : (s t : State) → IsSame s t → finding_of t (root_part (trapping tree) counts) ≡ finding_of s (root_part (trapping tree) counts)
   same_found s t same =
       let root = root_part_is (trapping tree) counts 1 linkable in
@@ -145,31 +150,31 @@ module _ (tree : Tree) (counts : List ℕ) (lawful : IsLawfulTree tree) (fit : H
     Holds = IsOrderlyShot (record { tree = tree; leaf = leaf }) counts net shot
 
     here : finding_of (state_in (restored tree net shot) []) (root_part (record { tree = tree; leaf = leaf }) counts)
-        ≡ found (state_of (snapshot_of shot))
-    here = root_found leaf (state_of (snapshot_of shot)) (state_in (restored tree net shot) []) (restored_same tree net shot lists)
+        ≡ found (state_of shot)
+    here = root_found leaf (state_of shot) (state_in (restored tree net shot) []) (restored_same tree net shot lists)
 
     pub unfit : (HaveInWords tree (option_to_list shot.inbox) → ⊥) → IsTrue false ↔ Holds
     unfolding state_in restored
     unfit never = (λ h. absurd (cc h), λ h. absurd (never h.orderly.items))
 
-    pub unsorted : None ≡ if_orderly (found (state_of (snapshot_of shot))) → IsTrue false ↔ Holds
+    pub unsorted : None ≡ if_orderly (found (state_of shot)) → IsTrue false ↔ Holds
     unsorted e = (
       λ h. absurd (cc h),
-      λ h. (let no = if_none (found (state_of (snapshot_of shot))) e in
+      λ h. (let no = if_none (found (state_of shot)) e in
           let yes = sym (ap (λ (f : Finding). f.orderly) here) ∙ h.orderly.root in
           absurd (cc (sym yes ∙ no))),
     )
 
     pub sorted : (pending : List Token) (result : Bool) → HaveInWords tree (option_to_list shot.inbox) →
-        Some pending ≡ if_orderly (found (state_of (snapshot_of shot))) →
+        Some pending ≡ if_orderly (found (state_of shot)) →
         IsTrue result ↔ (shot.sent ≡ shot.emitted
-        + (length ((state_of (snapshot_of shot)).tokens 1) + (length pending + length ((state_of (snapshot_of shot)).tokens 0)))) →
+        + (length ((state_of shot).tokens 1) + (length pending + length ((state_of shot).tokens 0)))) →
         IsTrue result ↔ Holds
     unfolding state_in restored
     sorted pending result words e h =
         let s : State = state_in (restored tree net shot) [] in
         let P : Part = root_part (record { tree = tree; leaf = leaf }) counts in
-        let f = if_some (found (state_of (snapshot_of shot))) pending e in
+        let f = if_some (found (state_of shot)) pending e in
         let same = restored_same tree net shot lists in
         let one = ap (λ (xs : List Token). length xs) (same.tokens 1) in
         let none = ap (λ (xs : List Token). length xs) (same.tokens 0) in

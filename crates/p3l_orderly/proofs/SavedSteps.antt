@@ -1,11 +1,11 @@
--- What was saved has few tags where it is held.
+-- A saved state has few tags on each token if it is held.
 use Rattle.std.proofs.Common.{◌≡◌, ℕ, zero, suc, ◌<◌, List, [], ◌∷◌, length, get_or, refl, subst, arith}
 use Rattle.std.specs.List.{All}
 use Rattle.p3l_firing.specs.declared.net.Net.{Net}
-use Rattle.p3l_net.specs.Shot.{HasFewTags, IsHeld}
-use Rattle.p3l_net.specs.declared.shot.SavedToken.{SavedToken}
-use Rattle.p3l_net.specs.declared.shot.Shot.{Shot}
-use Rattle.p3l_orderly.specs.Saved.{HaveFewTags}
+use Rattle.p3l_firing.specs.Shot.{HasFewTags, HaveFewTags}
+use Rattle.p3l_firing.specs.declared.shot.SavedToken.{SavedToken}
+use Rattle.p3l_firing.specs.declared.shot.Shot.{Shot}
+use Rattle.p3l_net.specs.Shot.{IsHeld}
 
 or-same : (xs : List (List SavedToken)) (i : ℕ) (a b : List SavedToken) → i < length xs → get_or xs i a ≡ get_or xs i b
 or-same [] i a b l = absurd (omega (arith, l))

@@ -1,4 +1,4 @@
--- The steps of the walk over a tree in code: what was found so far, with what is found at the seats that are left, is all.
+-- The steps of the walk over a tree in code: what was found so far, with what is found at the slots that are left, is all.
 use Rattle.std.proofs.Common.{◌≡◌, ℕ, zero, suc, ◌+◌, ◌-◌, ◌<◌, ◌≤◌, ◌&&◌, Bool, true, false, Option, Some, None, cond, List, [], ◌∷◌, ◌++◌, length, get_or, drop, drop-cons, refl, sym, ap, ap₂, ◌∙◌, subst, subst₂, arith, append_assoc, append-nil, length-append}
 use Rattle.std.proofs.lemmas.Bool.{cond-false}
 use Rattle.std.proofs.lemmas.List.{drop_all, get_or_default, length-map}
@@ -9,38 +9,38 @@ use Rattle.p3l_firing.specs.State.{State}
 use Rattle.p3l_firing.specs.declared.token.Token.{Token}
 use Rattle.p3l_template.specs.Finding.{Finding, if_orderly}
 use Rattle.p3l_template.specs.Placed.{IsLawfulShape}
-use Rattle.p3l_template.specs.Shape.{Base, Seat, no_seat}
+use Rattle.p3l_template.specs.Shape.{Base, Slot, no_slot}
 use Rattle.p3l_link.specs.Counts.{IsCounted}
 use Rattle.p3l_link.specs.Net.{Piece, base_at, followed, inner_pieces, piece_of, whole_piece}
 use Rattle.p3l_link.specs.Shape.{kind_at, shape_at}
-use Rattle.p3l_link.proofs.Counted.{counted_deep, counted_own, counted_there, seat_counted, shape_lawful}
+use Rattle.p3l_link.proofs.Counted.{counted_deep, counted_own, counted_there, slot_counted, shape_lawful}
 use Rattle.p3l_link.proofs.Placing.{piece_step}
 use Rattle.p3l_orderly.specs.declared.walk.Found.{Found}
 use Rattle.p3l_orderly.specs.Walk.{all_found, all_pending, inner_found, node_found, with_inner}
 use Rattle.p3l_orderly.specs.Walked.{HasRoomAt, found_at, found_to, walk_found, walk_piece}
 
--- the first of the seats that are left
-found_more : (f : ℕ → Base → Finding) (g : ℕ → Base → Piece) (seats : List Seat) (i p c : ℕ) → i < length seats →
-    inner_found f g (drop i seats) p c
-    ≡ f (get_or seats i no_seat).part (base_at (get_or seats i no_seat) p c)
-    ∷ inner_found f g (drop (i + 1) seats) (p + length (g (get_or seats i no_seat).part (base_at (get_or seats i no_seat) p c)).procs)
-    (c + length (g (get_or seats i no_seat).part (base_at (get_or seats i no_seat) p c)).chans)
+-- the first of the slots that are left
+found_more : (f : ℕ → Base → Finding) (g : ℕ → Base → Piece) (slots : List Slot) (i p c : ℕ) → i < length slots →
+    inner_found f g (drop i slots) p c
+    ≡ f (get_or slots i no_slot).part (base_at (get_or slots i no_slot) p c)
+    ∷ inner_found f g (drop (i + 1) slots) (p + length (g (get_or slots i no_slot).part (base_at (get_or slots i no_slot) p c)).procs)
+    (c + length (g (get_or slots i no_slot).part (base_at (get_or slots i no_slot) p c)).chans)
 unfolding inner_found
-found_more f g seats i p c l =
+found_more f g slots i p c l =
     let more : suc i ≡ i + 1 = omega arith in
-    ap (λ z. inner_found f g z p c) (drop-cons seats i no_seat l ∙ ap (λ j. get_or seats i no_seat ∷ drop j seats) more)
+    ap (λ z. inner_found f g z p c) (drop-cons slots i no_slot l ∙ ap (λ j. get_or slots i no_slot ∷ drop j slots) more)
 
-piece_more : (g : ℕ → Base → Piece) (seats : List Seat) (i p c : ℕ) → i < length seats →
-    inner_pieces g (drop i seats) p c
-    ≡ followed (g (get_or seats i no_seat).part (base_at (get_or seats i no_seat) p c))
-    (inner_pieces g (drop (i + 1) seats) (p + length (g (get_or seats i no_seat).part (base_at (get_or seats i no_seat) p c)).procs)
-    (c + length (g (get_or seats i no_seat).part (base_at (get_or seats i no_seat) p c)).chans))
+piece_more : (g : ℕ → Base → Piece) (slots : List Slot) (i p c : ℕ) → i < length slots →
+    inner_pieces g (drop i slots) p c
+    ≡ followed (g (get_or slots i no_slot).part (base_at (get_or slots i no_slot) p c))
+    (inner_pieces g (drop (i + 1) slots) (p + length (g (get_or slots i no_slot).part (base_at (get_or slots i no_slot) p c)).procs)
+    (c + length (g (get_or slots i no_slot).part (base_at (get_or slots i no_slot) p c)).chans))
 unfolding inner_pieces
-piece_more g seats i p c l =
+piece_more g slots i p c l =
     let more : suc i ≡ i + 1 = omega arith in
-    ap (λ z. inner_pieces g z p c) (drop-cons seats i no_seat l ∙ ap (λ j. get_or seats i no_seat ∷ drop j seats) more)
+    ap (λ z. inner_pieces g z p c) (drop-cons slots i no_slot l ∙ ap (λ j. get_or slots i no_slot ∷ drop j slots) more)
 
-inner_length : (f : ℕ → Base → Finding) (g : ℕ → Base → Piece) (seats : List Seat) (p c : ℕ) → length (inner_found f g seats p c) ≡ length seats
+inner_length : (f : ℕ → Base → Finding) (g : ℕ → Base → Piece) (slots : List Slot) (p c : ℕ) → length (inner_found f g slots p c) ≡ length slots
 unfolding inner_found
 inner_length f g [] p c = refl
 inner_length f g (x ∷ xs) p c = ap suc (inner_length f g xs _ _)
@@ -48,7 +48,7 @@ inner_length f g (x ∷ xs) p c = ap suc (inner_length f g xs _ _)
 abbrev pub found_of : List Token → (p c : ℕ) → Found
 found_of pending p c = record { pending = pending; proc = p; chan = c }
 
--- what is found of an inner part that is orderly, and of one that is not
+-- the finding for an inner part that is orderly, and for one that is not
 pub found_some : (f : Finding) (p c : ℕ) (x : Found) → Some x ≡ found_to f p c →
     (f.orderly ≡ true) × (x ≡ found_of f.pending p c)
 unfolding found_to
@@ -79,7 +79,7 @@ pub none_found : (f : Finding) (p c : ℕ) → f.orderly ≡ false → None ≡ 
 unfolding found_to
 none_found f p c h = sym (cond-false _ _ _ h)
 
--- what is pending in a part that is orderly, with its end
+-- the tokens pending in an orderly part, with its end
 pub ending_some : (pending : List Token) (f : Finding) (p c : ℕ) → Some pending ≡ if_orderly f →
     Some (found_of pending p c) ≡ found_to f p c
 unfolding if_orderly found_to
@@ -103,8 +103,8 @@ ending_none f p c e = go f.orderly e
     go false h = refl
 
 module _ (tree : Tree) (count : ℕ → ℕ) (levels k : ℕ) (base : Base) (s : State) where
-  abbrev pub seats : List Seat
-  seats = (shape_at tree count k).seats base
+  abbrev pub slots : List Slot
+  slots = (shape_at tree count k).slots base
 
   abbrev pub pieces : ℕ → Base → Piece
   pieces = λ v. piece_of tree count 1 (levels - 1) (part_at tree k v)
@@ -118,19 +118,19 @@ module _ (tree : Tree) (count : ℕ → ℕ) (levels k : ℕ) (base : Base) (s :
   abbrev pub first_chan : ℕ
   first_chan = base.chan + (shape_at tree count k).chans base
 
-  -- what is found in all inner parts, and all that they place
+  -- the findings in all inner parts, and their pieces
   abbrev pub all_inner : List Finding
-  all_inner = inner_found founds pieces seats first_proc first_chan
+  all_inner = inner_found founds pieces slots first_proc first_chan
 
   abbrev pub all_pieces : Piece
-  all_pieces = inner_pieces pieces seats first_proc first_chan
+  all_pieces = inner_pieces pieces slots first_proc first_chan
 
-  -- with what is found at the seats from i on, which lie from process p and channel c on, what was found so far is all
+  -- with what is found at the slots from i on, which lie from process p and channel c on, what was found so far is all
   pub record IsLeft (i p c : ℕ) (inner : List (List Token)) : Type 0 where
-    pub pending : inner ++ all_pending (inner_found founds pieces (drop i seats) p c) ≡ all_pending all_inner
-    pub orderly : all_found (inner_found founds pieces (drop i seats) p c) ≡ all_found all_inner
-    pub procs : p + length (inner_pieces pieces (drop i seats) p c).procs ≡ first_proc + length all_pieces.procs
-    pub chans : c + length (inner_pieces pieces (drop i seats) p c).chans ≡ first_chan + length all_pieces.chans
+    pub pending : inner ++ all_pending (inner_found founds pieces (drop i slots) p c) ≡ all_pending all_inner
+    pub orderly : all_found (inner_found founds pieces (drop i slots) p c) ≡ all_found all_inner
+    pub procs : p + length (inner_pieces pieces (drop i slots) p c).procs ≡ first_proc + length all_pieces.procs
+    pub chans : c + length (inner_pieces pieces (drop i slots) p c).chans ≡ first_chan + length all_pieces.chans
 
   pub left_first : (p c : ℕ) (inner : List (List Token)) → p ≡ first_proc → c ≡ first_chan → inner ≡ [] → IsLeft 0 p c inner
   left_first p c inner ep ec ei =
@@ -138,7 +138,7 @@ module _ (tree : Tree) (count : ℕ → ℕ) (levels k : ℕ) (base : Base) (s :
       (subst (λ z. IsLeft 0 first_proc z inner) (sym ec)
       (subst (IsLeft 0 first_proc first_chan) (sym ei) (record { pending = refl; orderly = refl; procs = refl; chans = refl })))
 
-  -- that was found of all, and they end before process p and channel c
+  -- all inner parts were found orderly, and they end before process p and channel c
   pub record IsAll (p c : ℕ) (inner : List (List Token)) : Type 0 where
     pub pending : inner ≡ all_pending all_inner
     pub orderly : all_found all_inner ≡ true
@@ -146,23 +146,23 @@ module _ (tree : Tree) (count : ℕ → ℕ) (levels k : ℕ) (base : Base) (s :
     pub chans : c ≡ first_chan + length all_pieces.chans
 
   module _ (i p c : ℕ) (inner : List (List Token)) (left : IsLeft i p c inner) where
-    module _ (l : i < length seats) where
-      abbrev seat : Seat
-      seat = get_or seats i no_seat
+    module _ (l : i < length slots) where
+      abbrev slot : Slot
+      slot = get_or slots i no_slot
 
       abbrev here : Piece
-      here = pieces seat.part (base_at seat p c)
+      here = pieces slot.part (base_at slot p c)
 
       abbrev found : Finding
-      found = founds seat.part (base_at seat p c)
+      found = founds slot.part (base_at slot p c)
 
       pub left_next : found.orderly ≡ true →
           IsLeft (i + 1) (p + length here.procs) (c + length here.chans) (inner ++ found.pending ∷ [])
       unfolding all_found
       left_next h =
-          let more = found_more founds pieces seats i p c l in
-          let piece = piece_more pieces seats i p c l in
-          let next : Piece = inner_pieces pieces (drop (i + 1) seats) (p + length here.procs) (c + length here.chans) in
+          let more = found_more founds pieces slots i p c l in
+          let piece = piece_more pieces slots i p c l in
+          let next : Piece = inner_pieces pieces (drop (i + 1) slots) (p + length here.procs) (c + length here.chans) in
           let np = length-append here.procs next.procs in
           let nc = length-append here.chans next.chans in
           let tp = ap (λ (z : Piece). length z.procs) piece in
@@ -172,14 +172,14 @@ module _ (tree : Tree) (count : ℕ → ℕ) (levels k : ℕ) (base : Base) (s :
           record {
             pending = append_assoc inner (found.pending ∷ []) _ ∙ ap (λ z. inner ++ all_pending z) (sym more) ∙ left.pending;
             orderly =
-                ap (λ b. b && all_found (inner_found founds pieces (drop (i + 1) seats) (p + length here.procs) (c + length here.chans))) (sym h)
+                ap (λ b. b && all_found (inner_found founds pieces (drop (i + 1) slots) (p + length here.procs) (c + length here.chans))) (sym h)
                 ∙ ap all_found (sym more) ∙ left.orderly;
             procs = omega (arith, np, tp, lp);
             chans = omega (arith, nc, tc, lc);
           }
 
       -- with what the walk found of the next inner part
-      pub left_on : (x : Found) (p' c' : ℕ) (inner' : List (List Token)) → Some x ≡ found_at found here (base_at seat p c) →
+      pub left_on : (x : Found) (p' c' : ℕ) (inner' : List (List Token)) → Some x ≡ found_at found here (base_at slot p c) →
           p' ≡ x.proc → c' ≡ x.chan → inner' ≡ inner ++ x.pending ∷ [] → IsLeft (i + 1) p' c' inner'
       left_on x p' c' inner' e ep ec ei =
           let f = found_some found (p + length here.procs) (c + length here.chans) x e in
@@ -191,15 +191,15 @@ module _ (tree : Tree) (count : ℕ → ℕ) (levels k : ℕ) (base : Base) (s :
       pub left_none : found.orderly ≡ false → all_found all_inner ≡ false
       unfolding all_found
       left_none h =
-          sym left.orderly ∙ ap all_found (found_more founds pieces seats i p c l)
-          ∙ ap (λ b. b && all_found (inner_found founds pieces (drop (i + 1) seats) (p + length here.procs) (c + length here.chans))) h
+          sym left.orderly ∙ ap all_found (found_more founds pieces slots i p c l)
+          ∙ ap (λ b. b && all_found (inner_found founds pieces (drop (i + 1) slots) (p + length here.procs) (c + length here.chans))) h
 
       -- there is room for the next inner part where there is for all
       pub left_room : (first_proc + length all_pieces.procs ≤ 1048576) × (first_chan + length all_pieces.chans ≤ 1048576) →
-          HasRoomAt here (base_at seat p c)
+          HasRoomAt here (base_at slot p c)
       left_room room =
-          let piece = piece_more pieces seats i p c l in
-          let next : Piece = inner_pieces pieces (drop (i + 1) seats) (p + length here.procs) (c + length here.chans) in
+          let piece = piece_more pieces slots i p c l in
+          let next : Piece = inner_pieces pieces (drop (i + 1) slots) (p + length here.procs) (c + length here.chans) in
           let np = length-append here.procs next.procs in
           let nc = length-append here.chans next.chans in
           let tp = ap (λ (z : Piece). length z.procs) piece in
@@ -208,10 +208,10 @@ module _ (tree : Tree) (count : ℕ → ℕ) (levels k : ℕ) (base : Base) (s :
           let lc = left.chans in
           (omega (arith, np, tp, lp, room.0), omega (arith, nc, tc, lc, room.1))
 
-    pub left_all : length seats ≤ i → IsAll p c inner
+    pub left_all : length slots ≤ i → IsAll p c inner
     unfolding inner_found inner_pieces all_found
     left_all l =
-        let none = drop_all i seats l in
+        let none = drop_all i slots l in
         let lp = left.procs in
         let lc = left.chans in
         let tp = ap (λ z. length (inner_pieces pieces z p c).procs) none in
@@ -235,12 +235,12 @@ module _ (tree : Tree) (count : ℕ → ℕ) (levels k : ℕ) (base : Base) (s :
       where
         go : (n : ℕ) → 0 < n → node_found tree count 1 n k base s
             ≡ with_inner (inner_found (λ v b. node_found tree count 1 (n - 1) (part_at tree k v) b s)
-            (λ v. piece_of tree count 1 (n - 1) (part_at tree k v)) seats first_proc first_chan) ((kind_at tree count k).finds tree base s)
+            (λ v. piece_of tree count 1 (n - 1) (part_at tree k v)) slots first_proc first_chan) ((kind_at tree count k).finds tree base s)
         go zero l = absurd (omega arith)
         go (suc d) l =
             let e : d ≡ suc d - 1 = omega arith in
             ap (λ n. with_inner (inner_found (λ v b. node_found tree count 1 n (part_at tree k v) b s)
-            (λ v. piece_of tree count 1 n (part_at tree k v)) seats first_proc first_chan) ((kind_at tree count k).finds tree base s)) e
+            (λ v. piece_of tree count 1 n (part_at tree k v)) slots first_proc first_chan) ((kind_at tree count k).finds tree base s)) e
 
     piece_is : walk_piece tree count levels k base ≡ whole_piece (shape_at tree count k) 1 pieces base
     piece_is = piece_step tree count 1 levels k base (counted_deep tree count levels k counted)
@@ -276,16 +276,16 @@ module _ (tree : Tree) (count : ℕ → ℕ) (levels k : ℕ) (base : Base) (s :
     own_count p c inner all =
         let lw = law in
         ap length all.pending ∙ length-map all_inner (λ (f : Finding). f.pending)
-        ∙ inner_length founds pieces seats first_proc first_chan ∙ lw.count base
+        ∙ inner_length founds pieces slots first_proc first_chan ∙ lw.count base
 
-    -- where one inner part is not orderly, nothing is found
+    -- nothing is found if one inner part is not orderly
     pub nothing_found : all_found all_inner ≡ false →
         None ≡ found_at (walk_found tree count levels k base s) (walk_piece tree count levels k base) base
     nothing_found h =
         none_found (walk_found tree count levels k base s) _ _
         (ap (λ (f : Finding). f.orderly) node_step ∙ ap (λ b. b && ((kind_at tree count k).finds tree base s (all_pending all_inner)).orderly) h)
 
-    -- where all are, the template's own finding decides
+    -- the template's own finding decides if all are orderly
     pub own_found : (p c : ℕ) (inner : List (List Token)) → IsAll p c inner →
         found_to ((kind_at tree count k).finds tree base s inner) p c
         ≡ found_at (walk_found tree count levels k base s) (walk_piece tree count levels k base) base
@@ -298,31 +298,31 @@ module _ (tree : Tree) (count : ℕ → ℕ) (levels k : ℕ) (base : Base) (s :
         }) (walk_piece tree count levels k base) base) (sym all.orderly)
         ∙ ap (λ z. found_at z (walk_piece tree count levels k base) base) (sym node_step)
 
-    module _ (items : List Seat) (items_are : items ≡ seats) (i : ℕ) where
-      seats_length : length items ≡ length seats
-      seats_length = ap length items_are
+    module _ (items : List Slot) (items_are : items ≡ slots) (i : ℕ) where
+      slots_length : length items ≡ length slots
+      slots_length = ap length items_are
 
       pub items_end : (p c : ℕ) (inner : List (List Token)) → IsLeft i p c inner → length items ≤ i → IsAll p c inner
-      items_end p c inner left l = left_all i p c inner left (let e = seats_length in omega (arith, l, e))
+      items_end p c inner left l = left_all i p c inner left (let e = slots_length in omega (arith, l, e))
 
-      -- the part that was found at the next seat
-      module _ (l : i < length items) (x y : Seat) (same : x ≡ y) (at_i : y ≡ get_or items i y) (part : ℕ)
+      -- the part that was found at the next slot
+      module _ (l : i < length items) (x y : Slot) (same : x ≡ y) (at_i : y ≡ get_or items i y) (part : ℕ)
           (part_is : part ≡ part_at tree k x.part) where
-        below : i < length seats
-        below = let e = seats_length in omega (arith, l, e)
+        below : i < length slots
+        below = let e = slots_length in omega (arith, l, e)
 
-        seat_is : x ≡ get_or seats i no_seat
-        seat_is = same ∙ at_i ∙ ap (λ xs. get_or xs i y) items_are ∙ get_or_default seats i y no_seat below
+        slot_is : x ≡ get_or slots i no_slot
+        slot_is = same ∙ at_i ∙ ap (λ xs. get_or xs i y) items_are ∙ get_or_default slots i y no_slot below
 
-        part_there : part ≡ part_at tree k (get_or seats i no_seat).part
-        part_there = part_is ∙ ap (λ (z : Seat). part_at tree k z.part) seat_is
+        part_there : part ≡ part_at tree k (get_or slots i no_slot).part
+        part_there = part_is ∙ ap (λ (z : Slot). part_at tree k z.part) slot_is
 
         pub part_counted : IsCounted tree count (levels - 1) part
         part_counted =
             let some = counted_deep tree count levels k counted in
             let e : levels ≡ suc (levels - 1) = omega (arith, some) in
             subst (IsCounted tree count (levels - 1)) (sym part_there)
-            (seat_counted tree count k lawful (counted_there tree count levels k counted) base i below (levels - 1)
+            (slot_counted tree count k lawful (counted_there tree count levels k counted) base i below (levels - 1)
             (subst (λ d. IsCounted tree count d k) e counted))
 
         module _ (p c : ℕ) (b : Base) (place : b ≡ base_at x p c) where
@@ -332,8 +332,8 @@ module _ (tree : Tree) (count : ℕ → ℕ) (levels k : ℕ) (base : Base) (s :
           abbrev there_found : Option Found
           there_found = found_at (walk_found tree count (levels - 1) part b s) placed b
 
-          base_is : b ≡ base_at (get_or seats i no_seat) p c
-          base_is = place ∙ ap (λ (z : Seat). base_at z p c) seat_is
+          base_is : b ≡ base_at (get_or slots i no_slot) p c
+          base_is = place ∙ ap (λ (z : Slot). base_at z p c) slot_is
 
           pub part_room : (inner : List (List Token)) → IsLeft i p c inner → HasRoomAt (walk_piece tree count levels k base) base → HasRoomAt placed b
           part_room inner left room =
@@ -341,8 +341,8 @@ module _ (tree : Tree) (count : ℕ → ℕ) (levels k : ℕ) (base : Base) (s :
               (left_room i p c inner left below (whole_room room))
 
           found_is : there_found
-              ≡ found_at (founds (get_or seats i no_seat).part (base_at (get_or seats i no_seat) p c))
-              (pieces (get_or seats i no_seat).part (base_at (get_or seats i no_seat) p c)) (base_at (get_or seats i no_seat) p c)
+              ≡ found_at (founds (get_or slots i no_slot).part (base_at (get_or slots i no_slot) p c))
+              (pieces (get_or slots i no_slot).part (base_at (get_or slots i no_slot) p c)) (base_at (get_or slots i no_slot) p c)
           found_is =
               ap₂ (λ n (z : Base). found_at (walk_found tree count (levels - 1) n z s) (walk_piece tree count (levels - 1) n z) z) part_there base_is
 
@@ -354,5 +354,5 @@ module _ (tree : Tree) (count : ℕ → ℕ) (levels k : ℕ) (base : Base) (s :
           pub part_none : (inner : List (List Token)) → IsLeft i p c inner → None ≡ there_found →
               None ≡ found_at (walk_found tree count levels k base s) (walk_piece tree count levels k base) base
           part_none inner left e =
-              nothing_found (left_none i p c inner left below (found_none (founds (get_or seats i no_seat).part
-              (base_at (get_or seats i no_seat) p c)) _ _ (e ∙ found_is)))
+              nothing_found (left_none i p c inner left below (found_none (founds (get_or slots i no_slot).part
+              (base_at (get_or slots i no_slot) p c)) _ _ (e ∙ found_is)))

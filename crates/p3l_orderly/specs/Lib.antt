@@ -1,5 +1,4 @@
 pub mod Walk
 pub mod Walked
-pub mod Saved
 pub mod Root
 pub mod Sound

@@ -1,12 +1,12 @@
--- Whether what was saved of a machine is a state in which a run of a linked net can be, but for the widths of tokens and their traps.
+-- Decides whether a saved machine is in a state that a run of a linked net can have, apart from the widths of tokens and their traps.
 use Rattle.std.specs.Prelude.{◌≡◌, ◌+◌, List, [], length, ℕ}
 use Rattle.p3l_base.specs.declared.outcome.Outcome.{Outcome}
 use Rattle.p3l_skel.specs.declared.tree.Tree.{Tree}
 use Rattle.p3l_firing.specs.State.{State}
 use Rattle.p3l_firing.specs.declared.net.Net.{Net}
+use Rattle.p3l_firing.specs.declared.shot.Shot.{Shot}
 use Rattle.p3l_net.specs.Machine.{state_of}
 use Rattle.p3l_net.specs.Shot.{restored}
-use Rattle.p3l_net.specs.declared.shot.Shot.{Shot}
 use Rattle.p3l_template.specs.Units.{Units}
 use Rattle.p3l_link.specs.Laws.{IsOrderly}
 use Rattle.p3l_link.specs.Part.{root_part}

@@ -1,4 +1,4 @@
--- What the walk over a tree in code comes to.
+-- Results of the walk over a tree in code.
 use Rattle.std.specs.Prelude.{ℕ, ◌+◌, ◌≤◌, length, Option, Some, None, cond}
 use Rattle.p3l_skel.specs.declared.tree.Tree.{Tree}
 use Rattle.p3l_firing.specs.State.{State}
@@ -8,7 +8,7 @@ use Rattle.p3l_orderly.specs.declared.walk.Found.{Found}
 use Rattle.p3l_template.specs.Finding.{Finding}
 use Rattle.p3l_orderly.specs.Walk.{node_found}
 
--- what is found in a node, and what it places: of channels of capacity 1, since neither what is found nor the number of
+-- the finding in a node, and its piece: of channels of capacity 1, since neither the finding nor the number of
 -- processes and channels depends on the capacity
 abbrev pub walk_found : Tree → (ℕ → ℕ) → (d k : ℕ) → Base → State → Finding
 walk_found tree count d k base s = node_found tree count 1 d k base s
@@ -16,7 +16,7 @@ walk_found tree count d k base s = node_found tree count 1 d k base s
 abbrev pub walk_piece : Tree → (ℕ → ℕ) → (d k : ℕ) → Base → Piece
 walk_piece tree count d k base = piece_of tree count 1 d k base
 
--- what is pending where a part is orderly, with the first process and channel after it
+-- the tokens pending in an orderly part, with the first process and channel after it
 unfoldable pub found_to : Finding → (p c : ℕ) → Option Found
 found_to f p c = cond f.orderly (Some (record { pending = f.pending; proc = p; chan = c })) None
 

@@ -5,7 +5,11 @@ ghost use Rattle.p3l_skel.specs.declared.tree.Tree.{Tree};
 ghost use Rattle.p3l_skel.specs.Counts.{count_of};
 ghost use Rattle.p3l_skel.specs.Tree.{nesting};
 ghost use Rattle.p3l_firing.specs.Nodes.{Leaf};
+ghost use Rattle.p3l_firing.specs.Shot.{HaveFewTags};
 ghost use Rattle.p3l_firing.specs.State.{State};
+ghost use Rattle.p3l_firing.specs.declared.net.Net.{Net};
+ghost use Rattle.p3l_firing.specs.declared.shot.Shot.{Shot};
+ghost use Rattle.p3l_net.specs.Shot.{CanRestore};
 ghost use Rattle.p3l_template.specs.Finding.{IsFoundShape, finding_of};
 ghost use Rattle.p3l_template.specs.Units.{Units};
 ghost use Rattle.p3l_link.specs.Net.{root_base};
@@ -30,4 +34,9 @@ pub fn what_is_found_in_a_tree_is_what_its_part_is()
     ensures leaf { (tree : Tree) (one other : Leaf) (counts : List ℕ) (s : State)
         → finding_of s (root_part (record { tree = tree; leaf = one }) counts)
         ≡ finding_of s (root_part (record { tree = tree; leaf = other }) counts) }
+{}
+
+/// In a shot that can be restored no token has more tags than a token may have.
+pub fn what_can_be_restored_has_few_tags()
+    ensures { (tree : Tree) (net : Net) (shot : Shot) → CanRestore tree net shot → HaveFewTags shot }
 {}

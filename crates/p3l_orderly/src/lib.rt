@@ -4,7 +4,6 @@
 
 pub mod laws;
 pub mod root;
-pub mod saved;
 pub mod sound;
 pub mod walk;
 

@@ -8,24 +8,22 @@ ghost use Rattle.p3l_skel.specs.Counts.{HasLawfulCounts, count_of};
 ghost use Rattle.p3l_skel.specs.Lawful.{IsLawfulTree};
 ghost use Rattle.p3l_skel.specs.Numbers.{procs};
 ghost use Rattle.p3l_skel.specs.Tree.{nesting};
-ghost use Rattle.p3l_firing.specs.Carried.{HaveInWords};
+ghost use Rattle.p3l_firing.specs.NetInvariants.{HaveInWords};
 ghost use Rattle.p3l_firing.specs.Nodes.{Leaf};
+ghost use Rattle.p3l_firing.specs.Shot.{HaveFewTags, state_of};
 ghost use Rattle.p3l_firing.specs.declared.net.Net.{Net};
 ghost use Rattle.p3l_template.specs.Finding.{if_orderly};
-ghost use Rattle.p3l_template.specs.Snapshot.{state_of};
 ghost use Rattle.p3l_link.specs.Net.{root_base};
 ghost use Rattle.p3l_orderly.specs.Root.{IsOrderlyShot};
-ghost use Rattle.p3l_orderly.specs.Saved.{HaveFewTags};
 ghost use Rattle.p3l_orderly.specs.Walked.{walk_found};
 
-use crate::saved::snapshot_of;
 use crate::walk::find_in;
 use p3l_base::{List, NoMemory, Words};
 use p3l_firing::Token;
 use p3l_net::Shot;
 use p3l_skel::tree::NESTING;
 use p3l_skel::{Counts, Tree};
-use p3l_template::{Place, Snapshot};
+use p3l_template::Site;
 use std::alloc::Global;
 
 // The tokens pending in the root, without their outcomes, if it is orderly.
@@ -33,22 +31,23 @@ fn root_pending(
     alloc: Global,
     tree: &Tree,
     counts: &Counts,
-    snapshot: &Snapshot,
+    shot: &Shot,
 ) -> Result<Option<List<Token>>, NoMemory>
     requires tree { IsLawfulTree tree.now }
     requires counts { HasLawfulCounts tree.now counts.now.list }
     requires procs { procs tree.now counts.now.list 0 ≤ most_processes }
+    requires few { HaveFewTags shot.now }
     ensures { IfGiven result (λ pending. pending
         ≡ if_orderly (walk_found tree.now (count_of tree.now counts.now.list) nesting 0 root_base
-        (state_of snapshot.now))) }
+        (state_of shot.now))) }
 {
-    let root = Place {
+    let root = Site {
         input: 0,
         output: 1,
         proc: 2,
         chan: 2,
     };
-    match find_in(alloc, tree, counts, NESTING, 0, snapshot, &root)? {
+    match find_in(alloc, tree, counts, NESTING, 0, shot, &root)? {
         Some(found) => Ok(Some(found.pending)),
         None => Ok(None),
     }
@@ -69,15 +68,15 @@ fn fits_root(tree: &Tree, inbox: &Option<Words>) -> bool
 
 // Returns true exactly if each item sent was emitted, or waits after the root, is pending in it or
 // waits before it.
-fn is_balanced(shot: &Shot, snapshot: &Snapshot, pending: usize) -> bool
+fn is_balanced(shot: &Shot, pending: usize) -> bool
     ensures { IsTrue result
         ↔ (shot.now.sent
         ≡ shot.now.emitted
-        + (length ((state_of snapshot.now).tokens 1)
-        + (pending + length ((state_of snapshot.now).tokens 0)))) }
+        + (length ((state_of shot.now).tokens 1)
+        + (pending + length ((state_of shot.now).tokens 0)))) }
 {
-    let after = snapshot.tokens(1).len() as u128;
-    let before = snapshot.tokens(0).len() as u128;
+    let after = shot.tokens(1).len() as u128;
+    let before = shot.tokens(0).len() as u128;
     shot.sent as u128 == shot.emitted as u128 + (after + (pending as u128 + before))
 }
 
@@ -102,9 +101,8 @@ pub fn is_orderly(
     if !fits_root(tree, &shot.inbox) {
         return Ok(false);
     }
-    let snapshot = snapshot_of(alloc, shot)?;
-    match root_pending(alloc, tree, counts, &snapshot)? {
-        Some(pending) => Ok(is_balanced(shot, &snapshot, pending.len())),
+    match root_pending(alloc, tree, counts, shot)? {
+        Some(pending) => Ok(is_balanced(shot, pending.len())),
         None => Ok(false),
     }
 }

@@ -1,4 +1,5 @@
-// How often readers and writers are called: once for a piece, and again where they were interrupted.
+// Counts of the calls of readers and writers: one for a piece, and another if they were
+// interrupted.
 
 use crate::lists::list;
 use p3l_base::List;
@@ -11,7 +12,7 @@ use std::io;
 use std::io::{ErrorKind, Write};
 use std::test::Fail;
 
-/// How often a writer was called to write and to flush, and how many bytes it was given.
+/// Counts of the calls of a writer to write and to flush, and of the bytes that it was given.
 #[derive(Drop)]
 struct Calls {
     writes: Cell<usize>,
@@ -88,7 +89,7 @@ fn long_source(alloc: Global) -> Result<MemSource, Fail> {
     Ok(MemSource::new(bytes, 16_384, List::new(alloc)))
 }
 
-/// How many items a source gives.
+/// Counts the items that a source gives.
 fn items_in(alloc: Global, source: &mut MemSource) -> Result<usize, Fail> {
     let mut lines = Lines::new(alloc, 1, 1_000_000)?;
     let mut items: usize = 0;

@@ -108,7 +108,7 @@ help| => nothing
 fmt|--|--help => nothing
 help|run|fmt => nothing";
 
-/// What the program answers to a request for its version.
+/// The program's output for a request for its version.
 const VERSION: &str = "p3l 0.1.0
 proved by rattle, logic dac8208d650f15bf
 ";

@@ -112,7 +112,7 @@ fn interrupted_calls_are_made_again_and_faults_are_reported(rt: HostRuntime) {
     assert!(rt; HostErr::new(Faulty { calls: 0 }).put(b"ab") == Err(Failed));
 }
 
-/// How many bytes a writer was given in how many calls, and how many it takes until it fails.
+/// The bytes that a writer was given, its calls, and the bytes that it takes until it fails.
 #[derive(Drop)]
 struct Account {
     bytes: Cell<usize>,
@@ -154,7 +154,7 @@ impl Account {
         }
     }
 
-    /// How many bytes were taken, in how many calls.
+    /// Returns the number of bytes taken, and the number of calls.
     fn counts(&self) -> (usize, usize) {
         (self.bytes.get(), self.calls.get())
     }

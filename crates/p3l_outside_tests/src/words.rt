@@ -158,11 +158,11 @@ struct Shown<'a>(&'a Command);
 enum Value<'a> {
     Text(&'a str),
     Number(u32),
-    /// How picks are made, as the words have it.
+    /// The way to make picks, from the words.
     Picks(&'a Sched),
-    /// How a network is built: the program, the processors, the costs and the capacity.
+    /// The way to build a network: the program, the processors, the costs and the capacity.
     Build(&'a Build),
-    /// What is exported: the program, the processors, the costs and the capacity.
+    /// The program to export, the processors, the costs and the capacity.
     Exported(&'a Exported),
     /// No value, where a command has fewer than others.
     Nothing,

@@ -1,4 +1,4 @@
--- How answers without positions are put together.
+-- Answers without positions compose as answers with positions do.
 use Rattle.std.proofs.Common.{◌≡◌, Bool, true, false, List, ◌∷◌, Option, Some, None, Result, Ok, Err, if◌then◌else◌, refl, ap, ◌∙◌}
 use Rattle.std.specs.Option.{option_map_or}
 use Rattle.p3l_ast.specs.declared.position.Pos.{Pos}

@@ -1,4 +1,4 @@
--- Bodies do the same whatever their positions.
+-- The meaning of a body does not depend on its positions.
 use Rattle.std.proofs.Common.{◌≡◌, ℕ, ℤ, zero, suc, ◌+◌, ◌*◌, pos, negsuc, Bool, true, false, List, [], ◌∷◌, Result, Ok, Err, refl, ap, sym, ◌∙◌, nat_lt}
 use Rattle.std.specs.Prelude.{if◌then◌else◌}
 use Rattle.p3l_base.specs.declared.outcome.TrapKind.{TrapKind}

@@ -68,7 +68,7 @@ rescue_in_passes kinds.Map pos constants clauses = no_rescue_passes pos clauses.
 rescue_in_passes kinds.Reduce pos constants clauses = no_rescue_passes pos clauses.rescue
 rescue_in_passes kinds.Loop pos constants clauses = no_rescue_passes pos clauses.rescue
 
--- what is inside
+-- the calls inside a module are the same but for positions
 calls_settle : (pos : Pos) (inside : InsideTree) → calls_of nowhere (inside_unplaced inside) ≡ settled (map call_unplaced) (calls_of pos inside)
 calls_settle pos (body ports c) = refl
 calls_settle pos (calls []) = refl
@@ -123,7 +123,7 @@ module _ (before : Before) (its : List ℕ → Bool) (same : (name : List ℕ) �
   runnable_passes : (in_process : Bool) (call : Call) → runnable_callee in_process other (call_unplaced call) ≡ forget (runnable_callee in_process before call)
   runnable_passes in_process call =
       passes _ _ _ _ (callee_passes call.at)
-      (λ k. passes _ _ _ _ (broken_passes (in_process && not (module_at before.modules.wired k).sequential) _ NotInComp call.at.pos refl) (λ x. refl))
+      (λ k. passes _ _ _ _ (broken_passes (in_process && not (module_at before.modules.callables k).sequential) _ NotInComp call.at.pos refl) (λ x. refl))
 
   called_passes : (in_process : Bool) (call : Call) → called in_process other (call_unplaced call) ≡ forget (called in_process before call)
   called_passes in_process call =

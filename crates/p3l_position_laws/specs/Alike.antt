@@ -23,7 +23,7 @@ pub record BreaksIt (other : ProgramTree) (fault : Fault) : Type 0 where
   pub place : Pos
   pub breaks : resolved other ≡ Err (At fault place)
 
--- what is said of a program that comes to this
+-- a program resolves to this result, positions aside
 abbrev pub ComesTo : ProgramTree → Result ResolvedTree SourceRefusal → Type 0
 ComesTo other (Ok r) = KeepsRules other r
 ComesTo other (Err (At fault pos)) = BreaksIt other fault

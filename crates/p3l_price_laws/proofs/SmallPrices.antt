@@ -32,7 +32,7 @@ use Rattle.p3l_firing.specs.Segments.{halved, level_of, segment_lengths}
 use Rattle.p3l_firing.specs.Typed.{FitsKind, IsTyped}
 use Rattle.p3l_firing.specs.Widths.{Widths}
 use Rattle.p3l_firing.proofs.LawfulForms.{loop_parts, map_part, reduce_part}
-use Rattle.p3l_template.specs.Shape.{Base, Seat}
+use Rattle.p3l_template.specs.Shape.{Base, Slot}
 use Rattle.p3l_reduce.specs.Reduce.{fold_procs, join_procs, reduce_shape}
 use Rattle.p3l_link.specs.Net.{Piece, base_at, inner_pieces, linked_net, piece_of, root_base, root_piece}
 use Rattle.p3l_link.specs.Shape.{kind_at, kind_row, shape_at, shape_row}
@@ -318,9 +318,9 @@ module _ (tree : Tree) (costs : Costs) (lawful : IsLawfulTree tree) (priced : Ar
             (folds_small k own.0 workers len elem form several few m base.output base.chan (base.chan + m) 0 (segment_lengths (suc d) len) (segments_small (suc d) len)),
       )
 
-  -- the parts that are at its seats run no more than all
-  HasFewParts : ℕ → (Base → List Seat) → Type 0
-  HasFewParts k seats = ((base : Base) → seats base ≡ []) ⊎ ((v : ℕ) → runs tree (part_at tree k v) ≤ work)
+  -- the parts that are at its slots run no more than all
+  HasFewParts : ℕ → (Base → List Slot) → Type 0
+  HasFewParts k slots = ((base : Base) → slots base ≡ []) ⊎ ((v : ℕ) → runs tree (part_at tree k v) ≤ work)
 
   open_at : (k : ℕ) (form : Form) → (node_at tree k).form ≡ form → IsOpen form → runs tree k ≤ work → (v : ℕ) → runs tree (part_at tree k v) ≤ work
   open_at k form e is few v = elim (cases_lt k (length tree.nodes)) [
@@ -336,7 +336,7 @@ module _ (tree : Tree) (costs : Costs) (lawful : IsLawfulTree tree) (priced : Ar
     | inr past ↦ absurd (other (sym e ∙ rw (node_at-past tree k past) refl))
   ]
 
-  row_parts : (form : Form) (k parts n : ℕ) → (node_at tree k).form ≡ form → runs tree k ≤ work → HasFewParts k (shape_row form k parts n).seats
+  row_parts : (form : Form) (k parts n : ℕ) → (node_at tree k).form ≡ form → runs tree k ≤ work → HasFewParts k (shape_row form k parts n).slots
   unfolding kind_row HasFewParts reduce_shape IsOpen
   row_parts Seq k parts n e few = inl (λ base. refl)
   row_parts Comp k parts n e few = inl (λ base. refl)
@@ -347,7 +347,7 @@ module _ (tree : Tree) (costs : Costs) (lawful : IsLawfulTree tree) (priced : Ar
       inr (open_at k (Map w cut) e (mul-le-mul map.cuts.lawful_outs.some_first map.cuts.lawful_outs.some_second) few)
   row_parts (Reduce w len elem) k parts n e few = inl (none (level_of n))
     where
-      none : (level : ℕ) (base : Base) → (reduce_shape k len level).seats base ≡ []
+      none : (level : ℕ) (base : Base) → (reduce_shape k len level).slots base ≡ []
       none zero base = refl
       none (suc d) base = refl
   row_parts (Loop turns tokens) k parts n e few =
@@ -369,20 +369,20 @@ module _ (tree : Tree) (costs : Costs) (lawful : IsLawfulTree tree) (priced : Ar
       let a = transfer_small (node_at tree k).ins (let s = (sized k).0 in omega (arith, s)) in
       ((ends_small k).0, (omega (arith, test, a), tt))
 
-  inner_small : (f : ℕ → Base → Piece) (seats : List Seat) (p c : ℕ) → ((v : ℕ) (b : Base) → AllByRecursion SplitsSeveral (f v b).procs → AllByRecursion IsSmall (f v b).procs)
-      → AllByRecursion SplitsSeveral (inner_pieces f seats p c).procs → AllByRecursion IsSmall (inner_pieces f seats p c).procs
+  inner_small : (f : ℕ → Base → Piece) (slots : List Slot) (p c : ℕ) → ((v : ℕ) (b : Base) → AllByRecursion SplitsSeveral (f v b).procs → AllByRecursion IsSmall (f v b).procs)
+      → AllByRecursion SplitsSeveral (inner_pieces f slots p c).procs → AllByRecursion IsSmall (inner_pieces f slots p c).procs
   unfolding inner_pieces
   inner_small f [] p c each all = tt
-  inner_small f (seat ∷ seats) p c each all =
-      let here : Piece = f seat.part (base_at seat p c) in
-      let rest : Piece = inner_pieces f seats (p + length here.procs) (c + length here.chans) in
+  inner_small f (slot ∷ slots) p c each all =
+      let here : Piece = f slot.part (base_at slot p c) in
+      let rest : Piece = inner_pieces f slots (p + length here.procs) (c + length here.chans) in
       let both = all_front SplitsSeveral here.procs rest.procs all in
-      all_more IsSmall here.procs rest.procs (each seat.part (base_at seat p c) both.0)
-      (inner_small f seats (p + length here.procs) (c + length here.chans) each both.1)
+      all_more IsSmall here.procs rest.procs (each slot.part (base_at slot p c) both.0)
+      (inner_small f slots (p + length here.procs) (c + length here.chans) each both.1)
 
-  no_inner : (f : ℕ → Base → Piece) (seats : List Seat) (p c : ℕ) → seats ≡ [] → AllByRecursion IsSmall (inner_pieces f seats p c).procs
+  no_inner : (f : ℕ → Base → Piece) (slots : List Slot) (p c : ℕ) → slots ≡ [] → AllByRecursion IsSmall (inner_pieces f slots p c).procs
   unfolding inner_pieces
-  no_inner f seats p c none = subst (λ xs. AllByRecursion IsSmall (inner_pieces f xs p c).procs) (sym none) tt
+  no_inner f slots p c none = subst (λ xs. AllByRecursion IsSmall (inner_pieces f xs p c).procs) (sym none) tt
 
   module _ (count : ℕ → ℕ) (cap : ℕ) where
     piece_small : (d k : ℕ) (base : Base) → runs tree k ≤ work → AllByRecursion SplitsSeveral (piece_of tree count cap d k base).procs → AllByRecursion IsSmall (piece_of tree count cap d k base).procs
@@ -393,13 +393,13 @@ module _ (tree : Tree) (costs : Costs) (lawful : IsLawfulTree tree) (priced : Ar
         let f : ℕ → Base → Piece = λ v. piece_of tree count cap d (part_at tree k v) in
         let p = base.proc + length (shape.procs base) in
         let c = base.chan + shape.chans base in
-        let inner : Piece = inner_pieces f (shape.seats base) p c in
+        let inner : Piece = inner_pieces f (shape.slots base) p c in
         let both = all_front SplitsSeveral (shape.procs base) inner.procs all in
         all_more IsSmall (shape.procs base) inner.procs
         (row_prices (node_at tree k).form k (length (node_at tree k).parts) (count k) base refl few both.0)
         (elim (row_parts (node_at tree k).form k (length (node_at tree k).parts) (count k) refl few) [
-          | inl none ↦ no_inner f (shape.seats base) p c (none base)
-          | inr parts ↦ inner_small f (shape.seats base) p c (λ v b. piece_small d (part_at tree k v) b (parts v)) both.1
+          | inl none ↦ no_inner f (shape.slots base) p c (none base)
+          | inr parts ↦ inner_small f (shape.slots base) p c (λ v b. piece_small d (part_at tree k v) b (parts v)) both.1
         ])
 
   each_of : (P : Proc → Type 0) (ps : List Proc) → ((p : ℕ) (q : Proc) → slice_get ps p ≡ Some q → P q) → AllByRecursion P ps

@@ -1,4 +1,4 @@
--- What the prices of linked nets are.
+-- Prices of linked nets.
 use Rattle.std.specs.Prelude.{ℕ, List}
 use Rattle.p3l_skel.specs.declared.tree.Tree.{Tree}
 use Rattle.p3l_cost.specs.declared.costs.Costs.{Costs}

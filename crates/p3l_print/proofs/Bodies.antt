@@ -26,7 +26,7 @@ use Rattle.p3l_print.specs.Statement.{assignment_text, deeper, block_text, openi
 use Rattle.p3l_print.proofs.Canonical.{around, canonical_formula, canonical_formulas, canonical_script, tight_is}
 use Rattle.p3l_print.proofs.Writing.{AreWritable, Writes, EndsWord, put_space, put_line, put_margin, put_mark, put_alone, open_bracket_alone, close_bracket_alone, open_paren_alone, close_paren_alone, semicolon_alone, open_brace_alone, put_word, put_digits}
 
--- what stands after is writable too
+-- the symbols after writable ones are writable too
 
 mutual
   pub formula_passes : (e : Formula) (r : List Symbol) → AreWritable (spell e r) → AreWritable r

@@ -116,7 +116,7 @@ passages_are (i ∷ is) h =
     let b = passages_are is h.1 in
     ((a.0, b.0), (let p = a.1 in let q = b.1 in cc))
 
--- how tight it binds can be told from the tree
+-- the tree determines how tight an expression binds
 pub tight_is : (e : Formula) → tight (canonical_formula e) ≡ tightness (tree e)
 tight_is (numeral v p) = refl
 tight_is (place x is) = refl

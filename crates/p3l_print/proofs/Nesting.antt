@@ -1,4 +1,4 @@
--- Where a text passes no limit, its canonical form passes none.
+-- The canonical form of a text passes no limit if the text passes none.
 use Rattle.std.proofs.Common.{◌≡◌, ℕ, suc, ◌≤◌, Bool, true, false, List, [], ◌∷◌, Option, Some, None, refl, sym, ap, ◌∙◌, subst, arith}
 use Rattle.std.specs.Prelude.{nat_le, if◌then◌else◌}
 use Rattle.std.proofs.lemmas.Bool.Decides.{nat_tests}
@@ -29,7 +29,7 @@ use Rattle.p3l_grammar.specs.Written.{Formula, numeral, place, prefix, infix_, p
 use Rattle.p3l_grammar.proofs.Complete.{le_true}
 use Rattle.p3l_print.proofs.Canonical.{around, canonical_formula, canonical_formulas, canonical_script, canonical_passage, canonical_passages}
 
--- where an expression stands: in a term, or in the index of a target; with the brackets that were open
+-- the place of an expression: in a term, or in the index of a target; with the brackets that were open
 -- where the term or the target began
 
 data Where : Type 0 where
@@ -64,7 +64,7 @@ unfolding IsDeep
 deep_more (in_term base) b h = tt
 deep_more (in_index base) b h = grind (arith, nat_tests)
 
--- how each symbol of an expression changes it
+-- the nest after each symbol of an expression
 
 after_open_bracket : (p : Where) (b w o : ℕ) → IsDeep p b → after_symbol (nest p b w o) (sign marks.OpenBracket) ≡ nest p (suc b) w o
 unfolding IsDeep
@@ -202,7 +202,7 @@ mutual
   canonical_all_allowed b no_index g h = tt
   canonical_all_allowed b (index e is) g h = (h.0, (canonical_allowed (suc b) e g.0 h.1).plain, canonical_all_allowed b is g.1 h.2)
 
--- what the symbols of an expression say
+-- the limits that an expression keeps, if its symbols pass none
 
 record FormKeeps (p : Where) (b w o : ℕ) (e : Formula) (r : List Symbol) : Type 0 where
   allows : Allows b e
@@ -287,7 +287,7 @@ target brackets wanted operators = record {
   operators = operators;
 }
 
--- where an index of a target begins
+-- the start of an index of a target
 
 le_self : (b : ℕ) → nat_le b b ≡ true
 le_self b = grind (arith, nat_tests)
@@ -589,7 +589,7 @@ rest_kind k = at_rest_sign (kind_mark k) (kind_rests k)
 rest_end : (k : Kind) → IsSteady at_rest (spell_end k)
 rest_end k = both_steady at_rest (λ r. sign marks.End ∷ r) (λ r. sign (kind_mark k) ∷ r) (at_rest_sign marks.End refl) (rest_kind k)
 
--- what stands before the body of a `seq`
+-- the symbols before the body of a `seq` are steady at rest
 before_body_rests : (h : Signature) (b : Option Num) (x : Option Rescue) → IsSteady at_rest (λ r. sign marks.Seq ∷ spell_signature h (spell_clause marks.Budget b (spell_rescue_clause x r)))
 before_body_rests h b x =
     both_steady at_rest (λ r. sign marks.Seq ∷ r) (λ r. spell_signature h (spell_clause marks.Budget b (spell_rescue_clause x r))) (at_rest_sign marks.Seq refl)

@@ -1,4 +1,4 @@
--- What symbols derive does not depend on their positions.
+-- The tree that symbols derive does not depend on their positions.
 use Rattle.std.proofs.Common.{◌≡◌, ◌≤◌, ◌<◌, ℤ, Bool, true, false, List, [], ◌∷◌, Option, Some, None, map, refl, sym, ap, ◌∙◌, subst}
 use Rattle.std.specs.Prelude.{option_map}
 use Rattle.p3l_ast.specs.declared.position.Pos.{Pos}
@@ -40,7 +40,7 @@ AreSame [] [] = Unit {0}
 AreSame (s ∷ ss) (t ∷ ts) = Same s t × AreSame ss ts
 AreSame _ _ = ⊥
 
--- what is spelled at the front of symbols, and what is left of them
+-- a form spelled at the front of symbols, and the symbols left after it
 pub record Found {W : Type 0} (Alike : W → Type 0) (spelled : W → List Symbol → List Symbol) (r ts : List Symbol) : Type 0 where
   pub it : W
   pub alike : Alike it
@@ -165,7 +165,7 @@ find_out : (a : OutArg) (r ts : List Symbol) → AreSame (spell_out a r) ts → 
 find_out (Fresh p) r ts h = let a = find_port p r ts h in record { it = Fresh a.it; alike = ap Fresh a.alike; rest = a.rest; whole = a.whole; left = a.left }
 find_out (Old x) r ts h = let a = find_arg x r ts h in record { it = Old a.it; alike = ap Old a.alike; rest = a.rest; whole = a.whole; left = a.left }
 
--- what goes in and what comes out
+-- the inputs and the outputs
 pub record Sides (I O : Type 0) : Type 0 where
   pub ins : List I
   pub outs : List O
@@ -543,7 +543,7 @@ find_rescue (Some x) r ts h =
       left = b.left;
     }
 
--- where a rescue may be given, one that is the same but for positions may be too
+-- if a rescue may be given, one that differs only in positions may be too
 chain_alike : (k : Kind) (x y : Option Rescue) → option_map rescue_unplaced y ≡ option_map rescue_unplaced x → IsChain k x → IsChain k y
 chain_alike kinds.Comp x y p h = tt
 chain_alike kinds.Pipe None None p h = tt

@@ -3,7 +3,7 @@ use Rattle.std.proofs.Common.{◌≡◌, ℕ, List, [], ◌∷◌, map, refl, sy
 use Rattle.p3l_ast.specs.Tree.{ProgramTree}
 use Rattle.p3l_ast.specs.Unplaced.{nowhere, entry_unplaced}
 use Rattle.p3l_lexer.specs.declared.token.Lexeme.{Lexeme}
-use Rattle.p3l_lexer.specs.declared.token.Token.{Token}
+use Rattle.p3l_lexer.specs.declared.token.TextToken.{TextToken}
 use Rattle.p3l_lexer.specs.Position.{position_after}
 use Rattle.p3l_lexer.proofs.Spelling.{tokens_of}
 use Rattle.p3l_grammar.specs.Symbol.{Symbol, word, digits, sign, faulty, symbol, symbol_at, symbols}
@@ -20,13 +20,13 @@ use Rattle.p3l_print.proofs.Nesting.{text_within}
 
 -- a token is the symbol that it was written for, but for its position
 
-same_symbol : (s : Symbol) (token : Token) → token.lexeme ≡ lexeme_of s → Same s (symbol token)
+same_symbol : (s : Symbol) (token : TextToken) → token.lexeme ≡ lexeme_of s → Same s (symbol token)
 same_symbol (word x) token h = subst (λ (l : Lexeme). Same (word x) (symbol_at l token.at)) (sym h) refl
 same_symbol (digits v p) token h = subst (λ (l : Lexeme). Same (digits v p) (symbol_at l token.at)) (sym h) refl
 same_symbol (sign m) token h = subst (λ (l : Lexeme). Same (sign m) (symbol_at l token.at)) (sym h) refl
 same_symbol faulty token h = subst (λ (l : Lexeme). Same faulty (symbol_at l token.at)) (sym h) tt
 
-same_symbols : (ss : List Symbol) (tokens : List Token) → map (λ t. t.lexeme) tokens ≡ lexemes_of ss → AreSame ss (symbols tokens)
+same_symbols : (ss : List Symbol) (tokens : List TextToken) → map (λ t. t.lexeme) tokens ≡ lexemes_of ss → AreSame ss (symbols tokens)
 same_symbols [] [] h = tt
 same_symbols [] (t ∷ tokens) h = absurd cc
 same_symbols (s ∷ ss) [] h = absurd cc
@@ -50,7 +50,7 @@ same_within n (s ∷ ss) (t ∷ ts) h w =
     let e = same_after n s t h.0 in
     (subst IsKept e w.0, same_within (after_symbol n t) ss ts h.1 (subst (λ m. IsWithin m ss) e w.1))
 
--- what is written with the symbols of entries that pass no limit is a text of a program of these entries
+-- a text written with the symbols of entries that pass no limit is a text of a program of these entries
 pub written_is_text : (program : ProgramTree) (forms : List Passage) → IsText forms → map entry_unplaced (text_tree forms) ≡ map entry_unplaced program.entries
     → Writes (canonical program) (spell_text forms []) → IsWithin at_rest (spell_text forms []) → IsTextOf (canonical program) program
 written_is_text program forms proper tree_is writes within =

@@ -18,7 +18,7 @@ use Rattle.p3l_lexer.specs.declared.token.Lexeme.{Lexeme}
 use Rattle.p3l_lexer.specs.declared.token.Lexeme.TheVariants as lexemes
 use Rattle.p3l_lexer.specs.declared.token.Piece.{Piece}
 use Rattle.p3l_lexer.specs.declared.token.Piece.TheVariants as pieces
-use Rattle.p3l_lexer.specs.declared.token.Token.{Token}
+use Rattle.p3l_lexer.specs.declared.token.TextToken.{TextToken}
 use Rattle.p3l_ast.specs.Notation.{operator_of}
 use Rattle.p3l_lexer.specs.Mark.{mark_text, punctuation_of}
 use Rattle.p3l_lexer.specs.Piece.{piece_of}
@@ -238,7 +238,7 @@ turns_writes u n r s t h w =
     let w2 = clause_writes marks.Turns (Some u) (spell_clause marks.Tokens n r) s1 t1 turns_space h (clause_begins marks.Tokens n (10 ∷ t) refl) w1 in
     rw (turns_text u n, append_assoc (clause_text (codes "turns") (Some u)) (clause_text (codes "tokens") n) (10 ∷ t)) w2
 
--- what stands inside a module
+-- the text inside a module
 
 body_writes : (ls : List Port) (c : Script) (r s : List Symbol) (t : List ℕ) → AreWritable (each spell_local ls (spell_script c r)) → Writes t s
     → Writes (inside_text (body ls (script_tree c)) ++ t) (sign marks.OpenBody ∷ each spell_local ls (spell_script (canonical_script c) (sign marks.CloseBody ∷ s)))
@@ -376,5 +376,5 @@ chunks_writable bytes before (chunk ∷ chunks) h = go chunk.piece h.2.is_piece 
     go pieces.Gap p k = k
     go (pieces.Token lexeme) p k = (symbol_writable chunk.text lexeme (position_after before) p, k)
 
-pub tokens_writable : (bytes : List ℕ) (tokens : List Token) → IsTokens bytes tokens → AreWritable (symbols tokens)
+pub tokens_writable : (bytes : List ℕ) (tokens : List TextToken) → IsTokens bytes tokens → AreWritable (symbols tokens)
 tokens_writable bytes tokens h = rw h.tokens_are (chunks_writable bytes [] h.chunks h.cut)

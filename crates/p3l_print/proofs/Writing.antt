@@ -156,7 +156,7 @@ put_digits v rest s n p q e h =
     ends [] q = absurd cc
     ends (b ∷ text) q = run_ends b text rest (digits_start b text v q) e
 
--- how something is written, and that what stands after it is writable too
+-- a text writes the symbols spelled, and the symbols after them are writable too
 pub record IsSpelling {X : Type 0} (text : X → List ℕ) (spelled : X → List Symbol → List Symbol) : Type 0 where
   pub writes : (x : X) (r s : List Symbol) (rest : List ℕ) → AreWritable (spelled x r) → EndsWord rest → Writes rest s → Writes (text x ++ rest) (spelled x s)
   pub passes : (x : X) (r : List Symbol) → AreWritable (spelled x r) → AreWritable r
@@ -280,7 +280,7 @@ out_passes (Old a) r h = arg_spelling.passes a r h
 pub out_spelling : IsSpelling out_arg_text spell_out
 out_spelling = record { writes = out_writes; passes = out_passes }
 
--- what goes in and what comes out
+-- the symbols of inputs and outputs
 abbrev pub spell_interface : {I O : Type 0} → (I → List Symbol → List Symbol) → List I → (O → List Symbol → List Symbol) → List O → List Symbol → List Symbol
 spell_interface f is k os r =
     sign marks.In ∷ sign marks.OpenParen ∷ separated f is (sign marks.CloseParen ∷ sign marks.Out ∷ sign marks.OpenParen ∷ separated k os (sign marks.CloseParen ∷ r))

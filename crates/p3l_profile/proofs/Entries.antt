@@ -3,10 +3,10 @@ use Rattle.std.proofs.Common.{◌≡◌, ℕ, ◌+◌, ◌<◌, ◌≤◌, List,
 use Rattle.std.proofs.lemmas.List.{drop_all}
 use Rattle.p3l_skel.specs.declared.tree.ModuleInfo.{ModuleInfo}
 use Rattle.p3l_skel.specs.declared.tree.Node.{Node}
-use Rattle.p3l_profile.specs.declared.text.Table.{Table}
+use Rattle.p3l_profile.specs.declared.text.CostTable.{CostTable}
 use Rattle.p3l_profile.specs.Text.{entries, entry_of}
 
-module _ (table : Table) (number : ℕ → ℕ) (nodes : List Node) (modules : List ModuleInfo) (k : ℕ) (before whole : List ℕ) (so_far : before ++ entries table number nodes k (drop k modules) ≡ whole) where
+module _ (table : CostTable) (number : ℕ → ℕ) (nodes : List Node) (modules : List ModuleInfo) (k : ℕ) (before whole : List ℕ) (so_far : before ++ entries table number nodes k (drop k modules) ≡ whole) where
   pub entry_more : (info : ModuleInfo) (now : List ℕ) → k < length modules → info ≡ get_or modules k info → now ≡ before ++ entry_of table number nodes k info →
       now ++ entries table number nodes (k + 1) (drop (k + 1) modules) ≡ whole
   entry_more info now inside is added =

@@ -1,13 +1,12 @@
--- What is noted one after the other is the greatest of all.
+-- Numbers that are noted one after the other come to the greatest of them all.
 use Rattle.std.proofs.Common.{◌≡◌, ◌≢◌, ℕ, zero, suc, ◌+◌, ◌<◌, ◌≤◌, ◌==◌, Bool, true, false, cond, List, [], ◌∷◌, ◌++◌, length, replicate, refl, sym, ap, ◌∙◌, subst, arith}
 use Rattle.std.specs.Prelude.{codes, max, min, slice_index, ◌&&◌}
 use Rattle.std.proofs.lemmas.Bool.Decides.{nat_tests}
 use Rattle.std.proofs.lemmas.List.{length-set, length-replicate, get_or-replicate, get_or-set_same, get_or-set_other}
 use Rattle.p3l_skel.specs.declared.tree.ModuleInfo.{ModuleInfo}
 use Rattle.p3l_skel.specs.declared.tree.Node.{Node}
-use Rattle.p3l_skel.specs.declared.tree.Tree.{Tree}
-use Rattle.p3l_profile.specs.declared.text.Table.{Table}
-use Rattle.p3l_profile.specs.declared.text.Table.TheVariants.{Ticks, Turns}
+use Rattle.p3l_profile.specs.declared.text.CostTable.{CostTable}
+use Rattle.p3l_profile.specs.declared.text.CostTable.TheVariants.{Ticks, Turns}
 use Rattle.p3l_profile.specs.Greatest.{Greatest, if_own, none_noted, noted, noted_all, raised, took_in, work_in}
 use Rattle.p3l_profile.specs.Law.{HasTheGreatest}
 use Rattle.p3l_walk.specs.Notes.{Note, noted_by, ran, turn}
@@ -79,7 +78,7 @@ took_is modules done home inside =
     let same : max 1 (took_in done home) ≡ took_in done home = omega arith in
     took_at (none_noted modules) done home long (subst (λ k. 1 ≤ k) (sym first) (omega arith)) ∙ (ap (λ k. max k (took_in done home)) first ∙ same)
 
-entries-same : (table : Table) (f g : ℕ → ℕ) (nodes : List Node) (home : ℕ) (ms : List ModuleInfo) → ((k : ℕ) → k < home + length ms → f k ≡ g k) → entries table f nodes home ms ≡ entries table g nodes home ms
+entries-same : (table : CostTable) (f g : ℕ → ℕ) (nodes : List Node) (home : ℕ) (ms : List ModuleInfo) → ((k : ℕ) → k < home + length ms → f k ≡ g k) → entries table f nodes home ms ≡ entries table g nodes home ms
 entries-same table f g nodes home [] same = refl
 entries-same table f g nodes home (m ∷ ms) same =
     ap (λ n. entry_if (speaks_of table m.kind && is_used nodes home) m.name n ++ entries table f nodes (home + 1) ms) (same home (omega arith))
@@ -89,13 +88,13 @@ pub has_the_greatest : HasTheGreatest
 has_the_greatest tree done =
     let count = length tree.modules in
     let g = noted_all (none_noted count) done in
-    let same = λ (table : Table). entries-same table (number_of table (slice_index g.work) (slice_index g.took)) (number_of table (work_in done) (took_in done)) tree.nodes 0 tree.modules (numbers table) in
+    let same = λ (table : CostTable). entries-same table (number_of table (slice_index g.work) (slice_index g.took)) (number_of table (work_in done) (took_in done)) tree.nodes 0 tree.modules (numbers table) in
     ap (λ ticks. head ++ (ticks ++ turns_table (entries Turns (number_of Turns (slice_index g.work) (slice_index g.took)) tree.nodes 0 tree.modules))) (same Ticks)
     ∙ ap (λ turns. head ++ (entries Ticks (number_of Ticks (work_in done) (took_in done)) tree.nodes 0 tree.modules ++ turns_table turns)) (same Turns)
   where
     head : List ℕ
     head = codes "setup = 10\nword = 1\n[seq]\n"
 
-    numbers : (table : Table) (k : ℕ) → k < 0 + length tree.modules → number_of table (slice_index (noted_all (none_noted (length tree.modules)) done).work) (slice_index (noted_all (none_noted (length tree.modules)) done).took) k ≡ number_of table (work_in done) (took_in done) k
+    numbers : (table : CostTable) (k : ℕ) → k < 0 + length tree.modules → number_of table (slice_index (noted_all (none_noted (length tree.modules)) done).work) (slice_index (noted_all (none_noted (length tree.modules)) done).took) k ≡ number_of table (work_in done) (took_in done) k
     numbers Ticks k low = ap (λ n. min n most_cost) (work_is (length tree.modules) done k (omega arith))
     numbers Turns k low = took_is (length tree.modules) done k (omega arith)

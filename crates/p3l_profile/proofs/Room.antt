@@ -4,7 +4,7 @@ use Rattle.std.specs.Prelude.{max, slice_index}
 use Rattle.std.proofs.lemmas.List.{length-set, set_past}
 use Rattle.p3l_skel.specs.declared.tree.Tree.{Tree}
 use Rattle.p3l_walk.specs.Notes.{Note, noted_by, ran, turn}
-use Rattle.p3l_profile.specs.Greatest.{Greatest, HasRoom, noted, noted_all, raised}
+use Rattle.p3l_profile.specs.Greatest.{Greatest, HasRoom, noted, noted_all}
 
 room_one : (tree : Tree) (g : Greatest) (note : Note) → HasRoom tree g → HasRoom tree (noted g note)
 room_one tree g (ran home steps) room = record {

@@ -47,7 +47,7 @@ pub record HasRoom (tree : Tree) (g : Greatest) : Type 0 where
   pub work : length g.work ≡ length tree.modules
   pub took : length g.took ≡ length tree.modules
 
--- what a profile keeps: the numbers, and for each module how many `seq` modules are before it
+-- the state of a profile: the numbers, and for each module the number of `seq` modules before it
 pub record Profiled : Type 0 where
   pub greatest : Greatest
   pub places : List ℕ

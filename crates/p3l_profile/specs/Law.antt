@@ -1,4 +1,4 @@
--- What a profile comes to.
+-- The law of profiles: the text has the greatest of the numbers that were noted.
 use Rattle.std.specs.Prelude.{◌≡◌, ℕ, ℤ, List, length}
 use Rattle.std.specs.List.{flat_map}
 use Rattle.p3l_skel.specs.declared.tree.Tree.{Tree}
@@ -7,7 +7,7 @@ use Rattle.p3l_profile.specs.Greatest.{none_noted, noted_all, took_in, work_in}
 use Rattle.p3l_profile.specs.Notes.{Note, notes}
 use Rattle.p3l_profile.specs.Text.{cost_text, text_of}
 
--- what is done for items, one after the other
+-- the notes on items, one after the other
 abbrev pub notes_of : Tree → Served → List (List ℤ) → List Note
 notes_of tree served items = flat_map (notes tree served 0) items
 

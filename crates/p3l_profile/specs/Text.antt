@@ -7,8 +7,8 @@ use Rattle.p3l_skel.specs.declared.tree.ModuleKind.{ModuleKind}
 use Rattle.p3l_skel.specs.declared.tree.ModuleKind.TheVariants as kinds
 use Rattle.p3l_skel.specs.declared.tree.Node.{Node}
 use Rattle.p3l_skel.specs.declared.tree.Tree.{Tree}
-use Rattle.p3l_profile.specs.declared.text.Table.{Table}
-use Rattle.p3l_profile.specs.declared.text.Table.TheVariants.{Ticks, Turns}
+use Rattle.p3l_profile.specs.declared.text.CostTable.{CostTable}
+use Rattle.p3l_profile.specs.declared.text.CostTable.TheVariants.{Ticks, Turns}
 use Rattle.p3l_profile.specs.Greatest.{Greatest}
 use Rattle.p3l_base.specs.Limits.{most_cost}
 
@@ -17,13 +17,13 @@ abbrev pub is_used : List Node → ℕ → Bool
 is_used nodes home = list_any (λ (node : Node). node.module == home) nodes
 
 -- a table speaks of the modules of one kind
-abbrev pub speaks_of : Table → ModuleKind → Bool
+abbrev pub speaks_of : CostTable → ModuleKind → Bool
 speaks_of Ticks kinds.Seq = true
 speaks_of Turns kinds.Loop = true
 speaks_of _ _ = false
 
 -- the number of a module in a table, where it is known how much its work is and how many turns it took
-abbrev pub number_of : Table → (work took : ℕ → ℕ) → ℕ → ℕ
+abbrev pub number_of : CostTable → (work took : ℕ → ℕ) → ℕ → ℕ
 number_of Ticks work took home = min (work home) most_cost
 number_of Turns work took home = took home
 
@@ -37,11 +37,11 @@ entry_if true name number = entry name number
 entry_if false name number = []
 
 -- a module's entry of a table, if the table speaks of it and it is on a node
-abbrev pub entry_of : Table → (ℕ → ℕ) → List Node → ℕ → ModuleInfo → List ℕ
+abbrev pub entry_of : CostTable → (ℕ → ℕ) → List Node → ℕ → ModuleInfo → List ℕ
 entry_of table number nodes home m = entry_if (speaks_of table m.kind && is_used nodes home) m.name (number home)
 
 -- the entries of modules, from module `home` on
-abbrev pub entries : Table → (ℕ → ℕ) → List Node → ℕ → List ModuleInfo → List ℕ
+abbrev pub entries : CostTable → (ℕ → ℕ) → List Node → ℕ → List ModuleInfo → List ℕ
 entries table number nodes home [] = []
 entries table number nodes home (m ∷ ms) = entry_of table number nodes home m ++ entries table number nodes (home + 1) ms
 

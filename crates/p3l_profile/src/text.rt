@@ -12,7 +12,7 @@ use std::alloc::Global;
 
 /// The tables of a cost file: the ticks of `seq` modules, and the turns of `loop` modules.
 #[derive(Clone, Copy, Debug, Drop, PartialEq, Eq)]
-pub enum Table {
+pub enum CostTable {
     Ticks,
     Turns,
 }
@@ -45,25 +45,25 @@ fn put_entry(
 
 /// Returns true exactly if a module has an entry in a table: the table speaks of it, and it is on a
 /// node.
-fn has_entry(table: Table, tree: &Tree, home: usize, info: &ModuleInfo) -> bool
+fn has_entry(table: CostTable, tree: &Tree, home: usize, info: &ModuleInfo) -> bool
     ensures { result ≡ speaks_of table info.now.kind && is_used tree.now.nodes home }
 {
     let is_spoken_of = match (table, info.kind) {
-        (Table::Ticks, ModuleKind::Seq) => true,
-        (Table::Turns, ModuleKind::Loop) => true,
+        (CostTable::Ticks, ModuleKind::Seq) => true,
+        (CostTable::Turns, ModuleKind::Loop) => true,
         _ => false,
     };
     is_spoken_of && is_used(tree.nodes.as_slice(), home)
 }
 
 /// The number of a module in a table.
-fn number_of(table: Table, highs: &Highs, home: usize) -> u64
+fn number_of(table: CostTable, highs: &Highs, home: usize) -> u64
     ensures { result
         ≡ number_of table (slice_index highs.now.work) (slice_index highs.now.took) home }
 {
     match table {
-        Table::Ticks => highs.work(home).min(MOST_COST as u64),
-        Table::Turns => u64::from(highs.took(home)),
+        CostTable::Ticks => highs.work(home).min(MOST_COST as u64),
+        CostTable::Turns => u64::from(highs.took(home)),
     }
 }
 
@@ -71,7 +71,7 @@ fn number_of(table: Table, highs: &Highs, home: usize) -> u64
 fn put_entries(
     alloc: Global,
     text: &mut String,
-    table: Table,
+    table: CostTable,
     tree: &Tree,
     highs: &Highs,
 ) -> Result<(), NoMemory>
@@ -105,9 +105,9 @@ pub(crate) fn cost_text(alloc: Global, tree: &Tree, highs: &Highs) -> Result<Lis
     ensures { IfGiven result (λ text. text ≡ text_of tree.now highs.now) }
 {
     let mut turns = String::new(alloc);
-    put_entries(alloc, &mut turns, Table::Turns, tree, highs)?;
+    put_entries(alloc, &mut turns, CostTable::Turns, tree, highs)?;
     let mut text = String::from_str(alloc, "setup = 10\nword = 1\n[seq]\n")?;
-    put_entries(alloc, &mut text, Table::Ticks, tree, highs)?;
+    put_entries(alloc, &mut text, CostTable::Ticks, tree, highs)?;
     put_turns(&mut text, turns.as_str())?;
     Ok(List::from_vec(text.into_bytes()))
 }

@@ -99,8 +99,8 @@ pub has_network : ResolvedServe → ImageBeginsNoOther → EveryImageHasItsProgr
 has_network serve begins held others build name bytes own there n =
     (from_image serve begins held others build name bytes own there n, to_image serve begins held others build name bytes own there n)
 
--- what is expected of one network is expected of another way to it
-module _ (w : World) (one another : Origin) (request : Sched) (go : (n : Network) → HasNetwork w.files.old one n → HasNetwork w.files.old another n) where
+-- verdicts expected of one network are expected of another way to it
+module _ (w : World) (one another : Origin) (request : Sched) (go : (n : Network) → HasNetwork w.files.old.content one n → HasNetwork w.files.old.content another n) where
   ends_so : (trace : Option (List ℕ)) (reported : Bool) (finish : Finish) (stats : Option Stats) → EndsRun w one request trace reported finish stats → EndsRun w another request trace reported finish stats
   ends_so trace reported finish stats h = record {
     n = h.n;
@@ -147,10 +147,10 @@ module _ (w : World) (one another : Origin) (request : Sched) (go : (n : Network
 
 pub run_alike : EveryImageHasItsProgramsNetwork → EveryImageRunsAsItsProgram
 run_alike same w held build name bytes request known own there =
-    let both : (n : Network) → HasNetwork w.files.old (imaged name) n ↔ HasNetwork w.files.old (built build) n =
+    let both : (n : Network) → HasNetwork w.files.old.content (imaged name) n ↔ HasNetwork w.files.old.content (built build) n =
     subst (λ files. (n : Network) → HasNetwork files (imaged name) n ↔ HasNetwork files (built build) n) (sym known) (same held held build name bytes own there) in
-    let go : (n : Network) → HasNetwork w.files.old (imaged name) n → HasNetwork w.files.old (built build) n = λ n. (both n).0 in
-    let back : (n : Network) → HasNetwork w.files.old (built build) n → HasNetwork w.files.old (imaged name) n = λ n. (both n).1 in
+    let go : (n : Network) → HasNetwork w.files.old.content (imaged name) n → HasNetwork w.files.old.content (built build) n = λ n. (both n).0 in
+    let back : (n : Network) → HasNetwork w.files.old.content (built build) n → HasNetwork w.files.old.content (imaged name) n = λ n. (both n).1 in
     let image = imaged name in
     let program = built build in
     record {

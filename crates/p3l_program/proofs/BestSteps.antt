@@ -22,20 +22,20 @@ says_costs held files (Some name) tree None cs known has said = absurd has
 says_costs held files (Some name) tree (Some text) cs known has said = (text, subst (λ f. Holds f name text) known has.holds, said)
 
 -- all that `explain` writes, with or without a certificate
-whole_text : (w : World) (bytes taken : List ℕ) (build : Build) (cert : Option (List ℕ)) → IsWhole w bytes taken (command.Explain build cert) → WritesWhole w (IsExplained w.files.old build) bytes taken
+whole_text : (w : World) (bytes taken : List ℕ) (build : Build) (cert : Option (List ℕ)) → IsWhole w bytes taken (command.Explain build cert) → WritesWhole w (IsExplained w.files.old.content build) bytes taken
 unfolding work_of
 whole_text w bytes taken build None h = h
 whole_text w bytes taken build (Some name) h = h.text
 
-best_of : (w : World) (bytes taken : List ℕ) (build : Build) (held : Held) → w.files.old ≡ Some held → WritesWhole w (IsExplained w.files.old build) bytes taken → WritesBest held build taken w.out.new
+best_of : (w : World) (bytes taken : List ℕ) (build : Build) (held : Held) → w.files.old.content ≡ Some held → WritesWhole w (IsExplained w.files.old.content build) bytes taken → WritesBest held build taken w.output.new.content
 best_of w bytes taken build held files h =
     let e = h.is in
     let a = e.has.allotted in
     record {
       r = e.r;
-      program = program_of held w.files.old build.program e.has.text e.r files e.has.has a.priced.accepted;
+      program = program_of held w.files.old.content build.program e.has.text e.r files e.has.has a.priced.accepted;
       cs = e.cs;
-      costs = says_costs held w.files.old build.costs e.r.tree e.has.said e.cs files e.has.says a.priced.costs;
+      costs = says_costs held w.files.old.content build.costs e.r.tree e.has.said e.cs files e.has.says a.priced.costs;
       counts = e.counts;
       fit = a.chosen.optimal.fit;
       soonest = a.chosen.optimal.soonest;

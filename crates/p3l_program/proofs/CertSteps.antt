@@ -2,10 +2,11 @@
 use Rattle.std.proofs.Common.{◌≡◌, ℕ, List, [], ◌++◌, Option, Some, None, true, Result, IfErr, IfOk, refl, sym, ◌∙◌, inl, inr, subst, append-nil}
 use Rattle.std.specs.Prelude.{Bool, false, ◌↔◌, IsTrue}
 use Rattle.std.specs.declared.result.Result.TheVariants.{Ok, Err}
-use Rattle.p3l_format.specs.declared.fault.Fault.{Fault}
+use Rattle.p3l_format.specs.declared.fault.FieldFault.{FieldFault}
 use Rattle.p3l_format.specs.Format.{read_all}
 use Rattle.p3l_format.specs.Line.{line_number}
 use Rattle.p3l_format.specs.laws.Formats.{one_spelling}
+use Rattle.p3l_io.specs.Change.{Change, HasFailed, HasSameFaults}
 use Rattle.p3l_io.specs.Content.{Held}
 use Rattle.p3l_base.specs.Memory.{Refused}
 use Rattle.p3l_skel.specs.Counts.{HasLawfulCounts}
@@ -37,13 +38,12 @@ use Rattle.p3l_program.specs.LoadCert.{IsCertRefused, IsCertless, LoadsCert, Loa
 use Rattle.p3l_program.specs.Stage.{AllPass, IsRefusedBy, Stage, cert_stages, cost_stages, program_stages, verify_stages}
 use Rattle.p3l_program.specs.Verify.{IsVerified, holds_line}
 use Rattle.p3l_program.specs.Wants.{Wants}
-use Rattle.p3l_program.specs.World.{Change, HasFailed, IsCalm}
 use Rattle.p3l_program.proofs.LoadSteps.{costs_pass, priced_here, program_passes}
 use Rattle.p3l_program.proofs.OnceSteps.{said_alike}
 use Rattle.p3l_program.proofs.StageSteps.{passed_both, refused_after}
 
--- what the reader says of a text is a line
-reports_line : (text : List ℕ) (read : Result Cert Fault) (r : CertRefusal) → Err r ≡ answer_of text read → (line : ℕ) × (r ≡ refusals.BadText line)
+-- the reader's refusal of a text is a line
+reports_line : (text : List ℕ) (read : Result Cert FieldFault) (r : CertRefusal) → Err r ≡ answer_of text read → (line : ℕ) × (r ≡ refusals.BadText line)
 reports_line text (Ok cert) r is = absurd cc
 reports_line text (Err fault) r is = (line_number text fault.left, (let z = is in cc))
 
@@ -102,19 +102,19 @@ cert_unreadable files name tree costs (file.TooLong named) h = inl ((h.0, h.1), 
 cert_unreadable files name tree costs file.NoMemory h = h
 
 -- a text that is refused
-pub cert_unheld : (files : Change Held) (name : List ℕ) (tree : Tree) (costs : Costs) (written : List ℕ) (r : CertRefusal) → HasText files.old cert_limit name written → IsCertRefused tree costs written r → IsCalm files →
+pub cert_unheld : (files : Change Held) (name : List ℕ) (tree : Tree) (costs : Costs) (written : List ℕ) (r : CertRefusal) → HasText files.old.content cert_limit name written → IsCertRefused tree costs written r → HasSameFaults files →
     IsCertless files name tree costs (verdict_of (refusal.Evidence (evidence.Cert r)))
-cert_unheld files name tree costs written (refusals.RowWrong row kept found) held refuted calm =
-    inr (record { written = written; held = held; no_cert = record { refuted = refuted; named = λ e. absurd cc }; calm = calm })
-cert_unheld files name tree costs written (refusals.RowMissing row node bound cap) held refuted calm =
-    inr (record { written = written; held = held; no_cert = record { refuted = refuted; named = λ e. absurd cc }; calm = calm })
-cert_unheld files name tree costs written (refusals.ClaimWrong claim) held refuted calm =
-    inr (record { written = written; held = held; no_cert = record { refuted = refuted; named = λ e. absurd cc }; calm = calm })
-cert_unheld files name tree costs written (refusals.BadText line) held refuted calm =
-    inr (record { written = written; held = held; no_cert = record { refuted = refuted; named = λ e. absurd cc }; calm = calm })
-cert_unheld files name tree costs written refusals.NoMemory held refuted calm = calm
+cert_unheld files name tree costs written (refusals.RowWrong row kept found) held refuted same_faults =
+    inr (record { written = written; held = held; no_cert = record { refuted = refuted; named = λ e. absurd cc }; same_faults = same_faults })
+cert_unheld files name tree costs written (refusals.RowMissing row node bound cap) held refuted same_faults =
+    inr (record { written = written; held = held; no_cert = record { refuted = refuted; named = λ e. absurd cc }; same_faults = same_faults })
+cert_unheld files name tree costs written (refusals.ClaimWrong claim) held refuted same_faults =
+    inr (record { written = written; held = held; no_cert = record { refuted = refuted; named = λ e. absurd cc }; same_faults = same_faults })
+cert_unheld files name tree costs written (refusals.BadText line) held refuted same_faults =
+    inr (record { written = written; held = held; no_cert = record { refuted = refuted; named = λ e. absurd cc }; same_faults = same_faults })
+cert_unheld files name tree costs written refusals.NoMemory held refuted same_faults = same_faults
 
-module _ (files : Change Held) (name : List ℕ) (costs : Option (List ℕ)) (cert_file : List ℕ) (r : ResolvedTree) (program : Accepted) (text : List ℕ) (has : HasText files.old text_limit name text) (comes : ComesTo text r program) (said : Option (List ℕ)) (says : HasCostText files.old costs said) (cs : Costs) (are : AreSaid program.tree said cs) where
+module _ (files : Change Held) (name : List ℕ) (costs : Option (List ℕ)) (cert_file : List ℕ) (r : ResolvedTree) (program : Accepted) (text : List ℕ) (has : HasText files.old.content text_limit name text) (comes : ComesTo text r program) (said : Option (List ℕ)) (says : HasCostText files.old.content costs said) (cs : Costs) (are : AreSaid program.tree said cs) where
   front_refused : (more : List Stage) (refused : Refusal) → IsRefusedBy files more refused → IsRefusedBy files (program_stages name ++ (cost_stages name costs ++ more)) refused
   front_refused more refused by =
       refused_after files (program_stages name) (cost_stages name costs ++ more) refused (program_passes files name r program text has comes)
@@ -151,19 +151,19 @@ module _ (files : Change Held) (name : List ℕ) (costs : Option (List ℕ)) (ce
         };
       }),
     )),
-    h.calm,
+    h.same_faults,
   )
   certless_refused refused (inr h) = absurd (h.no_cert)
 
-  -- where no certificate is loaded its stages don't pass
+  -- if no certificate is loaded, its stages don't pass
   pub certless : (v : Verdict) → IsCertless files cert_file program.tree cs v → IsNotLoaded files (verify_stages name cert_file costs) v
   certless (verdict.Refused refused) h = certless_refused refused h
   certless verdict.NoMemory h = h
   certless (verdict.Ended finish stats) h = absurd h
   certless verdict.WriteFault h = absurd h
 
-  -- where one is loaded it is the program's
-  pub verified_here : (cert : Cert) → LoadsCert files.old cert_file program.tree cs cert → LoadsVerified files.old name costs cert_file cert
+  -- a certificate that is loaded is the program's
+  pub verified_here : (cert : Cert) → LoadsCert files.old.content cert_file program.tree cs cert → LoadsVerified files.old.content name costs cert_file cert
   verified_here cert loads = record {
     r = r;
     cs = cs;
@@ -187,13 +187,13 @@ module _ (files : Change Held) (name : List ℕ) (costs : Option (List ℕ)) (ce
   certless_result (Ok cert) h = tt
   certless_result (Err v) h = certless v h
 
-  pub verified_result : (result : Result Cert Verdict) → IfOk result (LoadsCert files.old cert_file program.tree cs) → IfOk result (LoadsVerified files.old name costs cert_file)
+  pub verified_result : (result : Result Cert Verdict) → IfOk result (LoadsCert files.old.content cert_file program.tree cs) → IfOk result (LoadsVerified files.old.content name costs cert_file)
   verified_result (Ok cert) h = verified_here cert h
   verified_result (Err v) h = tt
 
--- where a certificate is loaded that holds all stages pass
-module _ (files : Change Held) (name : List ℕ) (costs : Option (List ℕ)) (cert_file : List ℕ) (cert : Cert) (loads : LoadsVerified files.old name costs cert_file cert) where
-  said_pass : (c said : Option (List ℕ)) → HasCostText files.old c said → IsPriced loads.has.text said loads.r loads.cs → AllPass files (cost_stages name c)
+-- if a certificate is loaded that holds, all stages pass
+module _ (files : Change Held) (name : List ℕ) (costs : Option (List ℕ)) (cert_file : List ℕ) (cert : Cert) (loads : LoadsVerified files.old.content name costs cert_file cert) where
+  said_pass : (c said : Option (List ℕ)) → HasCostText files.old.content c said → IsPriced loads.has.text said loads.r loads.cs → AllPass files (cost_stages name c)
   said_pass None said says priced = tt
   said_pass (Some c) None says priced = absurd says
   said_pass (Some c) (Some t) says priced = ((t, says), ((loads.r, loads.cs, record { text = loads.has.text; has = loads.has.has; said = Some t; says = says; priced = priced }), tt))
@@ -207,7 +207,7 @@ module _ (files : Change Held) (name : List ℕ) (costs : Option (List ℕ)) (ce
       ((h.written, h.held), ((loads.r, loads.cs, cert, h), tt)))
 
   -- and its line is expected
-  pub verified : (text : List ℕ) → text ≡ holds_line cert.processors cert.used cert.service → IsVerified files.old name costs cert_file text
+  pub verified : (text : List ℕ) → text ≡ holds_line cert.processors cert.used cert.service → IsVerified files.old.content name costs cert_file text
   verified text is = record { r = loads.r; cs = loads.cs; cert = cert; has = loads.has; optimal = loads.optimal; text_is = is }
 
 -- a certificate's refusal says that memory ran out only when a request was refused

@@ -1,6 +1,7 @@
 -- Images of programs that are loaded, and the writing of one file.
 use Rattle.std.proofs.Common.{ℕ, ◌≤◌, List, [], Option, None, refl, sym, subst, arith}
 use Rattle.std.specs.declared.result.Result.TheVariants.{Ok, Err}
+use Rattle.p3l_io.specs.Change.{Change}
 use Rattle.p3l_io.specs.Content.{Held}
 use Rattle.p3l_skel.specs.declared.tree.Tree.{Tree}
 use Rattle.p3l_skel.specs.Counts.{HasLawfulCounts}
@@ -17,7 +18,6 @@ use Rattle.p3l_program.specs.Load.{IsLoaded, IsNotLoaded}
 use Rattle.p3l_program.specs.Saved.{IsFileExpected, SaveCause}
 use Rattle.p3l_program.specs.Stage.{AllPass, Stage}
 use Rattle.p3l_program.specs.Text.{IsNothing}
-use Rattle.p3l_program.specs.World.{Change}
 use Rattle.p3l_program.proofs.SavedSteps.{none_put, saving_expected, saving_failed, saving_refused, saving_unwritten}
 
 module _ (files : Option Held) (build : Build) (r : ResolvedTree) (loaded : Allotted) (is : IsLoaded files build r loaded) where
@@ -77,4 +77,4 @@ module _ (files : Change Held) (stages : List Stage) (name : List ℕ) (IsBytes 
     -- it was
     pub file_expected : SaveCause files name bytes (Ok tt) → IsFileExpected files stages name IsBytes (verdict.Ended finishes.Done None)
     file_expected h out still = saving_expected files out stages IsNothing name IsBytes [] bytes passed refl of (verdict.Ended finishes.Done None) h.0 h.1
-        (refl, refl, none_put out.old out.new still.known, still.calm)
+        (refl, refl, none_put out still.same_content, still.same_faults)

@@ -46,7 +46,7 @@ text_given priced capacity r bodies (Ok text) keeps are is = record {
 text_given priced capacity r bodies (Err e) keeps are is = tt
 
 module _ (files : Option Held) (exported : Exported) (priced : Priced) (loads : LoadsPriced files (build_of exported) priced) where
-  -- what is loaded can be exported
+  -- a loaded program can be exported
   pub may_be : exported.processors ≤ 512 → MayBeExported priced
   may_be few =
       let here = loads.has.allotted.chosen.optimal.fit in

@@ -1,6 +1,7 @@
 -- Files that a command writes before its work.
 use Rattle.std.proofs.Common.{◌≡◌, ◌≢◌, ℕ, List, [], ◌∷◌, ◌⊎◌, refl, sym, subst, inl, inr}
 use Rattle.clap.specs.Words.{Text}
+use Rattle.p3l_io.specs.Change.{Change, HasSameContent}
 use Rattle.p3l_io.specs.Content.{Held}
 use Rattle.p3l_opts.specs.declared.command.Command.{Command}
 use Rattle.p3l_opts.specs.Command.{Spells}
@@ -10,7 +11,6 @@ use Rattle.p3l_report.specs.declared.verdict.Verdict.TheVariants as verdict
 use Rattle.p3l_program.specs.Answer.{HasSavedFirst, SpellsWriter}
 use Rattle.p3l_program.specs.Command.{saved_first, written_of}
 use Rattle.p3l_program.specs.Saved.{AreSaved, KeepsBut, KeepsFirst}
-use Rattle.p3l_program.specs.World.{Change}
 use Rattle.p3l_program.proofs.SavedSteps.{kept_by, kept_no_memory}
 use Rattle.p3l_program.proofs.WorkLaws.{lawful}
 
@@ -20,10 +20,10 @@ first_writer words c spelled some = record { command = c; spelled = spelled; wri
 
 module _ (files : Change Held) (names : List (List ℕ)) where
   -- files that are kept, where there are none of those
-  pub first_by : (saves : List (List ℕ × List ℕ)) (v : Verdict) → saves ≡ [] → names ≡ [] → files.new ≡ files.old → KeepsFirst files names saves v
+  pub first_by : (saves : List (List ℕ × List ℕ)) (v : Verdict) → saves ≡ [] → names ≡ [] → HasSameContent files → KeepsFirst files names saves v
   first_by saves v none written same = subst (λ s. KeepsFirst files names s v) (sym none) (subst (λ n. KeepsFirst files n [] v) (sym written) (kept_by files [] v same))
 
-  -- where memory runs out for the lines no more is changed
+  -- if memory runs out for the lines, no other file is changed
   pub first_no_memory : (saves : List (List ℕ × List ℕ)) (v : Verdict) → KeepsFirst files names saves v → KeepsFirst files names saves verdict.NoMemory
   first_no_memory [] v h = kept_no_memory files names v h
   first_no_memory (save ∷ saves) v h = (h.0, tt)
@@ -32,8 +32,8 @@ module _ (files : Change Held) (names : List (List ℕ)) where
   unsaved_no_memory [] some kept = absurd (some refl)
   unsaved_no_memory (save ∷ saves) some kept = (kept, tt)
 
-  -- which files are changed
-  pub kept_first : (saves : List (List ℕ × List ℕ)) (v : Verdict) → KeepsFirst files names saves v → (files.new ≡ files.old) ⊎ KeepsBut files names
+  -- the files that are changed
+  pub kept_first : (saves : List (List ℕ × List ℕ)) (v : Verdict) → KeepsFirst files names saves v → HasSameContent files ⊎ KeepsBut files names
   kept_first [] (verdict.Refused r) h = inl h
   kept_first [] (verdict.Ended f s) h = inr h
   kept_first [] verdict.WriteFault h = inr h
@@ -42,7 +42,7 @@ module _ (files : Change Held) (names : List (List ℕ)) where
 
 -- by a refusal none, or those that were written before
 pub left_first : (words : List Text) (files : Change Held) (c : Command) → Spells words c → (r : Refusal) (saves : List (List ℕ × List ℕ)) → saved_first c ≡ saves → KeepsFirst files (written_of c) saves (verdict.Refused r) →
-    (files.new ≡ files.old) ⊎ HasSavedFirst words files
+    HasSameContent files ⊎ HasSavedFirst words files
 left_first words files c spelled r [] is h = inl h
 left_first words files c spelled r (save ∷ saves) is h =
     inr (record { command = c; spelled = spelled; some = λ none. absurd cc; saved = subst (λ s. AreSaved files s) (sym is) h.1; kept = h.0 })

@@ -1,4 +1,4 @@
--- What the answers of `gen` depend on.
+-- Premises of the answers of `gen`.
 use Rattle.std.proofs.Common.{◌≡◌, ℕ, List, [], Option, Some, None, refl, sym, ap, subst, ◌∙◌, arith, append-nil}
 use Rattle.p3l_gen.specs.Texts.{costs_text, program_text, stream_text}
 use Rattle.p3l_opts.specs.declared.command.Sched.{Sched}
@@ -45,14 +45,14 @@ gen_unstopped g f text is h =
     never_recorded g.request is.s _ is.picked (is.ran.stops (stopped_goes n (course_of n is.s seen.items) seen.ending f is.ran.ends h))
 
 -- one of status 0 is whole
-gen_whole : (w : World) (g : Gen) (rest taken : List ℕ) (f : Finish) (stats : Option Stats) → w.input.old ≡ Some rest → w.out.old ≡ Some taken → finish_status f ≡ status.done → EndsGen w g f stats → GensWhole w g rest taken
+gen_whole : (w : World) (g : Gen) (rest taken : List ℕ) (f : Finish) (stats : Option Stats) → w.input.old.content ≡ Some rest → w.output.old.content ≡ Some taken → finish_status f ≡ status.done → EndsGen w g f stats → GensWhole w g rest taken
 gen_whole w g rest taken f stats input out h e =
     let st = stream_is e.end status.done (sym (ap finish_status e.finish_is) ∙ h) (λ z. absurd (omega arith)) (λ z. absurd (omega arith)) in
     record {
       text = e.text;
       is = subst (λ k. IsGenerated g k e.text) (st.finish_is ∙ ap ends.Stream (statuses.done_is st.e st.status_is)) e.is;
-      rest_stays = e.input.known ∙ input;
-      taken_is = put_known w.out.old w.out.new taken e.text out e.put;
+      rest_stays = e.input.same_content ∙ input;
+      taken_is = put_known w.output taken e.text out e.put;
       saved = e.saved;
     }
 
@@ -70,7 +70,7 @@ gen_lawful g = record {
     input = e.input;
   };
   whole = λ w rest taken f stats input out h e. gen_whole w g rest taken f stats input out h e;
-  status_expected = λ w rest f stats input calm e. record {
+  status_expected = λ w rest f stats input faultless e. record {
     end = e.end;
     text = e.text;
     is = e.is;
@@ -78,7 +78,7 @@ gen_lawful g = record {
     unstopped = λ h. gen_unstopped g e.end e.text e.is (sym (ap finish_status e.finish_is) ∙ h);
   };
   read = λ w f stats e h. absurd (gen_read g e.end e.text e.is (sym (ap finish_status e.finish_is) ∙ h));
-  calm = λ w f stats e h. e.input.calm;
+  same_faults = λ w f stats e h. e.input.same_faults;
   stopped = λ w f stats e h. gen_unstopped g e.end e.text e.is (sym (ap finish_status e.finish_is) ∙ h);
   writer = λ w h. absurd h;
   first_written = λ none. saves_none g.prefix (program_text g.number) costs_text (stream_text g.number g.items) none;

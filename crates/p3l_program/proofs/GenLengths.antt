@@ -1,4 +1,4 @@
--- How long the generated texts are.
+-- Lengths of the generated texts.
 use Rattle.std.proofs.Common.{◌≡◌, ℕ, zero, suc, ◌+◌, ◌*◌, ◌<◌, ◌≤◌, ◌^◌, List, [], ◌++◌, length, codes, decimal, arith, length-append, if◌then◌else◌, ◌==◌, true, false}
 use Rattle.std.specs.List.{flat_map, range_with_len}
 use Rattle.std.proofs.Math.Nat.{mul-suc}

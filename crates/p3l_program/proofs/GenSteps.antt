@@ -2,8 +2,8 @@
 use Rattle.std.proofs.Common.{◌≡◌, ℕ, ◌<◌, ◌≤◌, ◌^◌, true, false, List, [], ◌∷◌, length, Option, Some, None, refl, sym, ap, subst, inl, inr, ◌∙◌, arith}
 use Rattle.std.specs.declared.result.Result.TheVariants.{Ok, Err}
 use Rattle.p3l_gen.specs.Texts.{costs_text, program_text, stream_text}
+use Rattle.p3l_io.specs.Change.{Change, IsStill, change, stream}
 use Rattle.p3l_io.specs.Content.{Held}
-use Rattle.p3l_skel.specs.Numbers.{procs}
 use Rattle.p3l_cost.specs.declared.costs.Costs.{Costs}
 use Rattle.p3l_cost.specs.declared.refusal.CostRefusal.{CostRefusal}
 use Rattle.p3l_cost.specs.declared.refusal.CostRefusal.TheVariants as costs
@@ -36,7 +36,7 @@ use Rattle.p3l_program.specs.Generated.{AreNotLoaded, EndsGen, Gen, IsGenExpecte
 use Rattle.p3l_program.specs.Saved.{AreSaved, HasSaves, HoldFirst, KeepsFirst, names_of}
 use Rattle.p3l_program.specs.Stage.{AllPass}
 use Rattle.p3l_program.specs.Text.{BeginsText}
-use Rattle.p3l_program.specs.World.{Change, IsStill, world}
+use Rattle.p3l_program.specs.World.{world}
 use Rattle.p3l_program.proofs.TreeSteps.{said_once}
 use Rattle.p3l_program.proofs.SavedSteps.{kept_by}
 use Rattle.p3l_program.proofs.SeenSteps.{seen_goes_on, seen_short, still_of}
@@ -56,21 +56,21 @@ module _ (text said : List ℕ) (processors : ℕ) (r : ResolvedTree) (program :
       here = subst (λ t. IsUnsaid t said why) comes.compiled.tree_is none
 
   not_priced : (why : CostRefusal) → IsRead program.tree said (Err why) → (why ≡ costs.NoMemory → ⊥) → AreNotLoaded text said processors (verdict.Refused (refusal.Costs why))
-  not_priced why read named = λ files calm. (inr ((r, comes.accepted), inl (unpriced why (record { read = read; named = named }))), calm)
+  not_priced why read named = λ files same_faults. (inr ((r, comes.accepted), inl (unpriced why (record { read = read; named = named }))), same_faults)
 
   pub costs_refused : (why : CostRefusal) → IsRead program.tree said (Err why) → AreNotLoaded text said processors (verdict_of (refusal.Costs why))
   costs_refused costs.NotToml read = not_priced costs.NotToml read (λ e. absurd cc)
   costs_refused (costs.BadKey key) read = not_priced (costs.BadKey key) read (λ e. absurd cc)
   costs_refused (costs.BadValue key) read = not_priced (costs.BadValue key) read (λ e. absurd cc)
   costs_refused (costs.Missing name) read = not_priced (costs.Missing name) read (λ e. absurd cc)
-  costs_refused costs.NoMemory read = λ files calm. calm
+  costs_refused costs.NoMemory read = λ files same_faults. same_faults
 
   module _ (cs : Costs) (says : Says program.tree said (Ok cs)) where
     priced : IsPriced text (Some said) r cs
     priced = record { accepted = comes.accepted; costs = subst (λ t. Says t said (Ok cs)) comes.compiled.tree_is says }
 
     pub texts_too_few : (need : ℕ) → IsShort program.tree processors need → AreNotLoaded text said processors (verdict.Refused (refusal.TooFew need))
-    texts_too_few need short = λ files calm. (
+    texts_too_few need short = λ files same_faults. (
       inr (
         (r, comes.accepted),
         inr (
@@ -86,13 +86,13 @@ module _ (text said : List ℕ) (processors : ℕ) (r : ResolvedTree) (program :
           }),
         ),
       ),
-      calm,
+      same_faults,
     )
       where
         here : IsShort r.tree processors need
         here = subst (λ t. IsShort t processors need) comes.compiled.tree_is short
 
--- where all is loaded the stages pass
+-- if all is loaded, the stages pass
 module _ (text said : List ℕ) (processors : ℕ) (loaded : Allotted) (loads : LoadsTexts text said processors loaded) where
   pub texts_pass : (files : Change Held) → AllPass files (text_stages text said processors)
   texts_pass files =
@@ -115,10 +115,14 @@ whole_is (ends.Stream ending.TooLong) h = absurd cc
 whole_is (ends.Stopped fired idle) h = absurd cc
 whole_is (ends.Trapped item kind home) h = absurd cc
 
--- a run on a source that reports a text below the limit, and never fails, is one on all items of the text
-pub ran_on : (n : Network) → n.start ≡ fresh → (s : Schedule) (text : List ℕ) (rest left taken taken' : Option (List ℕ)) (ran : Ran) → rest ≡ Some text → length text < 2 ^ 36 → Finishes n s keep.Nothing rest left 0 0 taken taken' ran → IsRanOn n s text ran.finish ran.stats ran.sum
-ran_on n begins s text rest left taken taken' ran known short f =
-    let to = seen_goes_on n text rest left 0 0 f.close f.stream f.items f.gives known (λ rose. absurd (omega arith)) in
+-- a text in memory, of which no reading fails
+abbrev pub in_memory : (rest left : List ℕ) → Change (List ℕ)
+in_memory rest left = change (stream (Some rest) 0) (stream (Some left) 0)
+
+-- a run on a text in memory below the limit is one on all items of the text
+pub ran_on : (n : Network) → n.start ≡ fresh → (s : Schedule) (text : List ℕ) (rest left : List ℕ) (out : Change (List ℕ)) (ran : Ran) → rest ≡ text → length text < 2 ^ 36 → Finishes n s keep.Nothing (in_memory rest left) out ran → IsRanOn n s text ran.finish ran.stats ran.sum
+ran_on n begins s text rest left out ran known short f =
+    let to = seen_goes_on n text (in_memory rest left) f.close f.stream f.items f.gives (ap Some known) (λ rose. absurd (omega arith)) in
     let all = sym (sym (seen_short (width_of n) text (omega arith)) ∙ to.seen) in
     let on = f.ran to.later to.may_come in
     let ends = subst (λ (i : Items). ran.finish ≡ finish_of n (course_of n s i.items) i.ending) all (f.ends to.later to.may_come to.e to.may_end) in
@@ -136,24 +140,24 @@ ran_on n begins s text rest left taken taken' ran known short f =
 
 -- the run of what is generated, as it was reported
 module _ (out : Change (List ℕ)) (g : Gen) where
-  -- what doesn't load
+  -- texts that are not loaded are not run
   pub gen_refused : (v : Verdict) → IsStill out → AreNotLoaded (program_text g.number) costs_text g.processors v → IsGenRun out g v
-  gen_refused v untouched h = λ files input calm saved still. not_loaded (world files input out) (gen_stages g) (EndsGen (world files input out) g) (BeginsText (world files input out) (IsGenText g)) ⊥ v still untouched (h files calm)
+  gen_refused v untouched h = λ files input same_faults saved still. not_loaded (world files input out) (gen_stages g) (EndsGen (world files input out) g) (BeginsText (world files input out) (IsGenText g)) ⊥ v still untouched (h files same_faults)
 
   module _ (f : RunEnd) (text : List ℕ) (is : IsGenerated g f text) (passed : (files : Change Held) → AllPass files (gen_stages g)) where
     pub gen_line : (v : Verdict) → IsLineOf out f text v → IsGenRun out g v
     gen_line (verdict.Refused refused) h = absurd h
-    gen_line (verdict.Ended f' stats) h = λ files input calm saved still. record {
+    gen_line (verdict.Ended f' stats) h = λ files input same_faults saved still. record {
       passed = passed files;
       ends = record { end = f; finish_is = h.0; stats_are = h.1; text = text; is = is; put = h.2; input = still; saved = saved };
-      files = calm;
-      out = h.3;
+      files = same_faults;
+      output = h.3;
     }
-    gen_line verdict.WriteFault h = λ files input calm saved still. record {
+    gen_line verdict.WriteFault h = λ files input same_faults saved still. record {
       begun = record { passed = passed files; begins = record { text = text; is = (f, is); begun = h.0; input = still } };
-      fault = inl (record { files = calm; out = h.1 });
+      fault = inl (record { files = same_faults; output = h.1 });
     }
-    gen_line verdict.NoMemory h = λ files input calm saved still. inr (record {
+    gen_line verdict.NoMemory h = λ files input same_faults saved still. inr (record {
       passed = passed files;
       begins = record { text = text; is = (f, is); begun = h; input = still };
     })

@@ -8,6 +8,7 @@ use Rattle.p3l_base.specs.declared.NoMemory.{NoMemory}
 use Rattle.p3l_base.specs.declared.outcome.Outcome.{Outcome}
 use Rattle.p3l_base.specs.declared.outcome.Outcome.TheVariants.{Value, Trapped}
 use Rattle.p3l_base.specs.declared.outcome.Trap.{Trap}
+use Rattle.p3l_io.specs.Change.{Change}
 use Rattle.p3l_io.specs.Content.{Held}
 use Rattle.p3l_ast.specs.Tree.{EntryTree, ProgramTree}
 use Rattle.p3l_lexer.proofs.Unique.{tokens_same}
@@ -27,7 +28,6 @@ use Rattle.p3l_stream.specs.declared.taken.Cutoff.TheVariants as stop
 use Rattle.p3l_stream.specs.Given.{Closes, ended_by}
 use Rattle.p3l_stream.specs.Items.{items_of, items_taken}
 use Rattle.p3l_stream.specs.Seen.{Seen}
-use Rattle.p3l_stream.specs.Taken.{IsTaken}
 use Rattle.p3l_stream.specs.Text.{item_text, text_of}
 use Rattle.p3l_sched.specs.declared.schedule.Schedule.{Schedule}
 use Rattle.p3l_run.specs.declared.end.RunEnd.{RunEnd}
@@ -57,10 +57,10 @@ use Rattle.p3l_program.specs.Origin.{built}
 use Rattle.p3l_program.specs.Plan.{IsAccepted, network_of}
 use Rattle.p3l_program.specs.Run.{BeginsRun, EndsRun, keeping_for}
 use Rattle.p3l_program.specs.Top.{Promises}
-use Rattle.p3l_program.specs.World.{Change, IsUntouched, World}
+use Rattle.p3l_program.specs.World.{IsUntouched, World}
 use Rattle.p3l_program.proofs.EndSteps.{put_known, stream_is}
 use Rattle.p3l_program.proofs.RunLaws.{whole_of}
-use Rattle.p3l_program.proofs.SeenSteps.{at_end_left, still_of}
+use Rattle.p3l_program.proofs.SeenSteps.{at_end_left, still_of, taken_known}
 
 -- A TEXT SPELLS ONE PROGRAM
 
@@ -162,17 +162,7 @@ traps_more outcome (words ∷ items) more h = h
 
 -- ITEMS OF THE INPUT
 
--- the bytes that were taken of an input that reports what is left, and those after them
-record HasTaken (left : Option (List ℕ)) (got bytes : List ℕ) : Type 0 where
-  after : List ℕ
-  left_is : left ≡ Some after
-  bytes_are : bytes ≡ got ++ after
-
-taken_of : (old left : Option (List ℕ)) (got bytes : List ℕ) → old ≡ Some bytes → IsTaken old left got → HasTaken left got bytes
-taken_of None left got bytes known h = absurd cc
-taken_of (Some other) left got bytes known h = let same : other ≡ bytes = cc in record { after = h.0; left_is = h.1; bytes_are = sym same ∙ h.2 }
-
--- where a line is refused, the items before it are all, and they end so
+-- if a line is refused, the items before it are all of them, and they end so
 line_ends : (width : ℕ) (s : Seen) (got after : List ℕ) (items : List (List ℤ)) (e : Ending) → (s.at_end ≡ true → after ≡ []) → ending_status e ≡ status.stream → Closes width s got items (closed_so (Some e)) →
     (items_of width (got ++ after) ≡ ended_by items e) × (e ≢ ending.End)
 line_ends width s got after items (ending.BadWord line) ended h closes = (closes stop.End after (λ at. (refl, ended at)), λ z. absurd cc)
@@ -182,33 +172,34 @@ line_ends width s got after items ending.End ended h closes = absurd (omega arit
 line_ends width s got after items ending.ReadFault ended h closes = absurd (omega arith)
 line_ends width s got after items ending.TooLong ended h closes = absurd (omega arith)
 
-module _ (width : ℕ) (old left : Option (List ℕ)) (before now : ℕ) (s : Seen) (items : List (List ℤ)) (bytes : List ℕ) (known : old ≡ Some bytes) where
-  module _ (closed : Option (Result Ending NoMemory)) (g : Gives width old left before now s items closed) where
-    got : HasTaken left g.bytes bytes
-    got = taken_of old left g.bytes bytes known g.read
+module _ (width : ℕ) (input : Change (List ℕ)) (s : Seen) (items : List (List ℤ)) (bytes : List ℕ) (known : input.old.content ≡ Some bytes) where
+  module _ (closed : Option (Result Ending NoMemory)) (g : Gives width input s items closed) where
+    -- the bytes that are left behind those that were taken
+    got : (after : List ℕ) × (input.new.content ≡ Some after) × (bytes ≡ g.bytes ++ after)
+    got = taken_known input bytes g.bytes known g.read
 
-    ended : s.at_end ≡ true → got.after ≡ []
-    ended h = at_end_left left got.after got.left_is (g.at_end h)
+    ended : s.at_end ≡ true → got.0 ≡ []
+    ended h = at_end_left input.new.content got.0 got.1 (g.at_end h)
 
     -- the items that a stream gave come first among those of its bytes
     items_first : (later : List (List ℤ)) × ((items_of width bytes).items ≡ items ++ later)
     items_first =
-        let f = g.given.first stop.End got.after (λ h. (refl, ended h)) in
-        (f.0.items, ap (λ b. (items_of width b).items) got.bytes_are ∙ ap (λ i. i.items) f.1)
+        let f = g.given.first stop.End got.0 (λ h. (refl, ended h)) in
+        (f.0.items, ap (λ b. (items_of width b).items) got.2 ∙ ap (λ i. i.items) f.1)
 
   -- and where it ended at a line that is refused they are all
-  stream_ended : (e : Ending) → Gives width old left before now s items (closed_so (Some e)) → ending_status e ≡ status.stream → (items_of width bytes ≡ ended_by items e) × (e ≢ ending.End)
+  stream_ended : (e : Ending) → Gives width input s items (closed_so (Some e)) → ending_status e ≡ status.stream → (items_of width bytes ≡ ended_by items e) × (e ≢ ending.End)
   stream_ended e g h =
-      let a = line_ends width s g.bytes (got (closed_so (Some e)) g).after items e (ended (closed_so (Some e)) g) h (subst (λ c. Closes width s g.bytes items c) g.closed_is g.given.closes) in
-      (ap (items_of width) (got (closed_so (Some e)) g).bytes_are ∙ a.0, a.1)
+      let a = line_ends width s g.bytes (got (closed_so (Some e)) g).0 items e (ended (closed_so (Some e)) g) h (subst (λ c. Closes width s g.bytes items c) g.closed_is g.given.closes) in
+      (ap (items_of width) (got (closed_so (Some e)) g).2 ∙ a.0, a.1)
 
-  -- where it ended at the limit they are all those of the bytes below it
-  limit_ended : Gives width old left before now s items (closed_so (Some ending.TooLong)) → items ≡ (items_taken width stop.Limit (take input_limit bytes)).items
+  -- if the stream ended at the limit, the items are all those of the bytes below it
+  limit_ended : Gives width input s items (closed_so (Some ending.TooLong)) → items ≡ (items_taken width stop.Limit (take input_limit bytes)).items
   limit_ended g =
       let closes : Closes width s g.bytes items (closed_so (Some ending.TooLong)) = subst (λ c. Closes width s g.bytes items c) g.closed_is g.given.closes in
       let t = got (closed_so (Some ending.TooLong)) g in
       let size : length g.bytes ≡ input_limit = sym g.given.counted ∙ closes.1 ∙ g.limit in
-      let front : take input_limit bytes ≡ g.bytes = ap (take input_limit) t.bytes_are ∙ subst (λ m. take m (g.bytes ++ t.after) ≡ g.bytes) size (take-append_seam g.bytes t.after) in
+      let front : take input_limit bytes ≡ g.bytes = ap (take input_limit) t.2 ∙ subst (λ m. take m (g.bytes ++ t.0) ≡ g.bytes) size (take-append_seam g.bytes t.0) in
       sym (ap (λ i. i.items) closes.2) ∙ ap (λ b. (items_taken width stop.Limit b).items) (sym front)
 
 -- HOW A RUN ENDED
@@ -250,7 +241,7 @@ module _ (r : ResolvedTree) (counts : List ℕ) (capacity : ℕ) (bytes taken : 
   abbrev leaf : ℕ → List ℤ → Outcome
   leaf = body_leaf r.tree r.seqs
 
-  module _ (s : Schedule) (keeping : Keeping) (old left : Option (List ℕ)) (before now : ℕ) (out new : Option (List ℕ)) (end : Ran) (f : Finishes n s keeping old left before now out new end) (input : old ≡ Some bytes) (known : out ≡ Some taken) where
+  module _ (s : Schedule) (keeping : Keeping) (input out : Change (List ℕ)) (end : Ran) (f : Finishes n s keeping input out end) (reports : input.old.content ≡ Some bytes) (known : out.old.content ≡ Some taken) where
     abbrev ran : IsRunOn n s (f.items ++ []) f.outcomes end.stats
     ran = f.ran [] (nothing_comes n f.close)
 
@@ -261,7 +252,7 @@ module _ (r : ResolvedTree) (counts : List ℕ) (capacity : ℕ) (bytes taken : 
     so_far = (let begins : IsPrefixOf f.outcomes (meaning_of n f.items) = subst (λ i. IsPrefixOf f.outcomes (meaning_of n i)) (append-nil f.items) ran.begins in split r.tree leaf f.items f.outcomes begins.0 begins.1)
 
     after : (later : List (List ℤ)) × ((input_of r bytes).items ≡ f.items ++ later)
-    after = items_first (width_of n) old left before now f.stream f.items bytes input (closed_so f.close) f.gives
+    after = items_first (width_of n) input f.stream f.items bytes reports (closed_so f.close) f.gives
 
     finish_is : end.finish ≡ finish_of n course (some_ending f.close).0
     finish_is = f.ends [] (nothing_comes n f.close) (some_ending f.close).0 (some_ending f.close).1
@@ -275,10 +266,10 @@ module _ (r : ResolvedTree) (counts : List ℕ) (capacity : ℕ) (bytes taken : 
     is_all : (e : Ending) → end.finish ≡ ends.Stream e → f.items ≡ (input_of r bytes).items → so_far.later ++ after.0 ≡ []
     is_all e stream same = both_nothing so_far.later after.0 (all_mean e stream) (nothing_more f.items after.0 (sym after.1 ∙ sym same))
 
-    finished : (k : ℕ) → end_status end.finish ≡ k → HasWritten r bytes taken new k
+    finished : (k : ℕ) → end_status end.finish ≡ k → HasWritten r bytes taken out.new.content k
     finished k h = record {
       written = text_of f.outcomes;
-      new_is = put_known out new taken (text_of f.outcomes) known f.put;
+      new_is = put_known out taken (text_of f.outcomes) known f.put;
       means = record {
         first = so_far.first;
         later = so_far.later ++ after.0;
@@ -290,18 +281,18 @@ module _ (r : ResolvedTree) (counts : List ℕ) (capacity : ℕ) (bytes taken : 
         whole = λ z. refl;
         done = λ z.
             let st = stream_is end.finish status.done (h ∙ z) (λ y. absurd (omega arith)) (λ y. absurd (omega arith)) in
-            let all = whole_of n s keeping old left before now out new end f bytes taken input known (h ∙ z) in
+            let all = whole_of n s keeping input out end f bytes taken reports known (h ∙ z) in
             (is_all st.e st.finish_is (sym (append-nil f.items) ∙ all.items_are), all.all_items);
         stream = λ z.
             let st = stream_is end.finish status.stream (h ∙ z) (λ y. absurd (omega arith)) (λ y. absurd (omega arith)) in
-            let gives = subst (λ c. Gives (width_of n) old left before now f.stream f.items (closed_so c)) (f.closed st.e st.finish_is) f.gives in
-            let all = stream_ended (width_of n) old left before now f.stream f.items bytes input st.e gives st.status_is in
+            let gives = subst (λ c. Gives (width_of n) input f.stream f.items (closed_so c)) (f.closed st.e st.finish_is) f.gives in
+            let all = stream_ended (width_of n) input f.stream f.items bytes reports st.e gives st.status_is in
             (is_all st.e st.finish_is (sym (ap (λ i. i.items) all.0)), λ y. all.1 (sym (ap (λ i. i.ending) all.0) ∙ y));
         too_long = λ z.
             let st = stream_is end.finish status.too_long (h ∙ z) (λ y. absurd (omega arith)) (λ y. absurd (omega arith)) in
-            let gives = subst (λ c. Gives (width_of n) old left before now f.stream f.items (closed_so c)) (f.closed st.e st.finish_is ∙ ap Some (statuses.too_long_is st.e st.status_is)) f.gives in
+            let gives = subst (λ c. Gives (width_of n) input f.stream f.items (closed_so c)) (f.closed st.e st.finish_is ∙ ap Some (statuses.too_long_is st.e st.status_is)) f.gives in
             sym (so_far.items_are ∙ ap (λ l. so_far.first ++ l) (all_mean st.e st.finish_is) ∙ append-nil so_far.first)
-            ∙ limit_ended (width_of n) old left before now f.stream f.items bytes input gives;
+            ∙ limit_ended (width_of n) input f.stream f.items bytes reports gives;
         trap = λ z.
             let t = some_trap n course (some_ending f.close).0 end.finish finish_is (h ∙ z) in
             traps_more (outcome_of r) so_far.later after.0 (so_far.trapped t.0 (ap trap_of ran.emitted ∙ t.1));
@@ -309,13 +300,13 @@ module _ (r : ResolvedTree) (counts : List ℕ) (capacity : ℕ) (bytes taken : 
     }
 
   -- a run that was begun wrote a prefix of it
-  begun : (s : Schedule) (old left : Option (List ℕ)) (before now : ℕ) (out new : Option (List ℕ)) → Starts n s old left before now out new → old ≡ Some bytes → out ≡ Some taken → (k : ℕ) → status.is_end k ≡ false → HasWritten r bytes taken new k
-  begun s old left before now out new f input known k unended =
+  begun : (s : Schedule) (input out : Change (List ℕ)) → Starts n s input out → input.old.content ≡ Some bytes → out.old.content ≡ Some taken → (k : ℕ) → status.is_end k ≡ false → HasWritten r bytes taken out.new.content k
+  begun s input out f reports known k unended =
       let all = split r.tree leaf f.items (meaning_of n f.items) [] (append-nil (meaning_of n f.items)) in
-      let after = items_first (width_of n) old left before now f.stream f.items bytes input f.closed f.gives in
+      let after = items_first (width_of n) input f.stream f.items bytes reports f.closed f.gives in
       record {
         written = f.begun.written;
-        new_is = put_known out new taken f.begun.written known f.begun.put;
+        new_is = put_known out taken f.begun.written known f.begun.put;
         means = record {
           first = all.first;
           later = all.later ++ after.0;
@@ -346,45 +337,45 @@ program_of held files name text r known has a = record {
 }
 
 module _ (once : SpellsOneAtMost) (outside : Bool) (words : List Text) (w : World) (err : Change (List ℕ)) (k : ℕ) (p : Promises outside words w err k) (build : Build) (schedule : Sched) (trace : Option (List ℕ)) (stats : Bool)
-    (spelled : opts.Spells words (command.Run build schedule trace stats)) (held : Held) (bytes taken : List ℕ) (files : w.files.old ≡ Some held) (input : w.input.old ≡ Some bytes) (out : w.out.old ≡ Some taken) where
+    (spelled : opts.Spells words (command.Run build schedule trace stats)) (held : Held) (bytes taken : List ℕ) (files : w.files.old.content ≡ Some held) (input : w.input.old.content ≡ Some bytes) (out : w.output.old.content ≡ Some taken) where
   abbrev requested : Command
   requested = command.Run build schedule trace stats
 
   -- a run that came to an end
-  ended_so : status.is_end k ≡ true → IsMeant held build.program bytes taken w.out.new k
+  ended_so : status.is_end k ≡ true → IsMeant held build.program bytes taken w.output.new.content k
   unfolding work_of
   ended_so kind =
       let e = p.ended kind in
       let x : EndsRun w (built build) schedule trace stats e.finish e.stats = subst (λ c. Ends w c e.finish e.stats) (once words e.command requested e.spelled spelled) e.end.ends in
       let b = x.has.network.is in
-      let f = subst (λ m. Finishes m x.s (keeping_for trace) w.input.old w.input.new w.input.before w.input.now w.out.old w.out.new x.ran) b.network_is x.finishes in
-      let o = finished b.r b.counts build.capacity bytes taken x.s (keeping_for trace) w.input.old w.input.new w.input.before w.input.now w.out.old w.out.new x.ran f input out k (sym (ap finish_status x.finish_is) ∙ e.status_is) in
+      let f = subst (λ m. Finishes m x.s (keeping_for trace) w.input w.output x.ran) b.network_is x.finishes in
+      let o = finished b.r b.counts build.capacity bytes taken x.s (keeping_for trace) w.input w.output x.ran f input out k (sym (ap finish_status x.finish_is) ∙ e.status_is) in
       record {
         written = o.written;
         new_is = o.new_is;
-        means = inl (b.r, program_of held w.files.old build.program x.has.network.texts.text b.r files x.has.network.have.0 b.allotted.priced.accepted, o.means);
+        means = inl (b.r, program_of held w.files.old.content build.program x.has.network.texts.text b.r files x.has.network.have.0 b.allotted.priced.accepted, o.means);
         refused = λ z. absurd (let y = sym (statuses.finish_other e.finish) ∙ ap status.is_refusal e.status_is ∙ z in cc);
       }
 
   -- one that was begun
-  begun_so : BeginsWork words w → status.is_end k ≡ false → status.is_refusal k ≡ false → IsMeant held build.program bytes taken w.out.new k
+  begun_so : BeginsWork words w → status.is_end k ≡ false → status.is_refusal k ≡ false → IsMeant held build.program bytes taken w.output.new.content k
   unfolding work_of
   begun_so e unended other =
       let x : BeginsRun w (built build) schedule = subst (λ c. Begins w c) (once words e.command requested e.spelled spelled) e.begun.begins in
       let b = x.has.network.is in
-      let f = subst (λ m. Starts m x.s w.input.old w.input.new w.input.before w.input.now w.out.old w.out.new) b.network_is x.starts in
-      let o = begun b.r b.counts build.capacity bytes taken x.s w.input.old w.input.new w.input.before w.input.now w.out.old w.out.new f input out k unended in
+      let f = subst (λ m. Starts m x.s w.input w.output) b.network_is x.starts in
+      let o = begun b.r b.counts build.capacity bytes taken x.s w.input w.output f input out k unended in
       record {
         written = o.written;
         new_is = o.new_is;
-        means = inl (b.r, program_of held w.files.old build.program x.has.network.texts.text b.r files x.has.network.have.0 b.allotted.priced.accepted, o.means);
+        means = inl (b.r, program_of held w.files.old.content build.program x.has.network.texts.text b.r files x.has.network.have.0 b.allotted.priced.accepted, o.means);
         refused = λ z. absurd (let y = sym z ∙ other in cc);
       }
 
-  untouched : IsUntouched w → status.is_end k ≡ false → IsMeant held build.program bytes taken w.out.new k
-  untouched u unended = record { written = []; new_is = u.out.known ∙ out ∙ ap Some (sym (append-nil taken)); means = inr (refl, unended); refused = λ z. refl }
+  untouched : IsUntouched w → status.is_end k ≡ false → IsMeant held build.program bytes taken w.output.new.content k
+  untouched u unended = record { written = []; new_is = u.output.same_content ∙ out ∙ ap Some (sym (append-nil taken)); means = inr (refl, unended); refused = λ z. refl }
 
-  meant : (end refusal : Bool) → status.is_end k ≡ end → status.is_refusal k ≡ refusal → IsMeant held build.program bytes taken w.out.new k
+  meant : (end refusal : Bool) → status.is_end k ≡ end → status.is_refusal k ≡ refusal → IsMeant held build.program bytes taken w.output.new.content k
   meant true refusal kind other = ended_so kind
   meant false true unended refusal = untouched (p.refused refusal).untouched unended
   meant false false unended other = elim p.begins [ inl still ↦ untouched still unended | inr begun ↦ begun_so begun unended other ]

@@ -11,6 +11,7 @@ use Rattle.p3l_image.specs.declared.image.ImageRefusal.{ImageRefusal}
 use Rattle.p3l_image.specs.declared.image.ImageRefusal.TheVariants as image
 use Rattle.p3l_image.specs.Image.{image_in}
 use Rattle.p3l_image.specs.Refusal.{Answers}
+use Rattle.p3l_io.specs.Change.{Change, HasSameFaults, change}
 use Rattle.p3l_io.specs.Content.{Held}
 use Rattle.p3l_load.specs.declared.loaded.Loaded.{Loaded}
 use Rattle.p3l_load.specs.declared.loaded.LoadRefusal.{LoadRefusal}
@@ -31,7 +32,6 @@ use Rattle.p3l_program.specs.Origin.{imaged}
 use Rattle.p3l_program.specs.LoadImage.{IsReadyImage, IsUndecoded, IsUnloadable, LoadsBytes, LoadsImage}
 use Rattle.p3l_program.specs.Plan.{IsImaged, network_in}
 use Rattle.p3l_program.specs.Stage.{AllPass, Stage, decoded, image_stages, migrate_stages, readable}
-use Rattle.p3l_program.specs.World.{Change, IsCalm}
 
 -- codes that are all safe have no unsafe one
 unsafe_at : (codes : List Code) (number : ℕ) → IsSomeAnd (slice_get codes number) (λ code. ¬ IsSafe code) → AllByRecursion IsSafe codes → ⊥
@@ -69,11 +69,11 @@ module _ (bytes : List ℕ) (i : Image) (is : IsImage i bytes) (only : (other : 
   unrunnable load.NotLinked h = broken load.NotLinked h (λ e. absurd cc) (λ runs. h.2 runs.linked)
   unrunnable load.NoMemory h = h
 
-module _ (files : Change Held) (name bytes : List ℕ) (has : HasText files.old image_limit name bytes) (calm : IsCalm files) where
+module _ (files : Change Held) (name bytes : List ℕ) (has : HasText files.old.content image_limit name bytes) (same_faults : HasSameFaults files) where
   -- bytes that are no image stop the stages of an image, whatever stages come after
   pub not_decoded : (more : List Stage) (v : Verdict) → IsUndecoded bytes v → IsNotLoaded files (readable image_limit name ∷ (decoded name ∷ more)) v
-  not_decoded more (verdict.Refused (refusal.Evidence (evidence.Image why))) h = (inr ((bytes, has), inl (record { bytes = bytes; has = has; are = h })), calm)
-  not_decoded more verdict.NoMemory h = calm
+  not_decoded more (verdict.Refused (refusal.Evidence (evidence.Image why))) h = (inr ((bytes, has), inl (record { bytes = bytes; has = has; are = h })), same_faults)
+  not_decoded more verdict.NoMemory h = same_faults
   not_decoded more v h = absurd h
 
   module _ (i : Image) (is : IsImage i bytes) (only : (other : Image) → IsImage other bytes → other ≡ i) where
@@ -90,7 +90,7 @@ module _ (files : Change Held) (name bytes : List ℕ) (has : HasText files.old 
           }),
         ),
       ),
-      calm,
+      same_faults,
     )
 
     -- an image that is refused can't be migrated
@@ -99,10 +99,10 @@ module _ (files : Change Held) (name bytes : List ℕ) (has : HasText files.old 
         unfit load.TreeWrong h (λ e. absurd cc) (λ runs. h (record { lawful = runs.whole.lawful; counted = runs.whole.counted; few = runs.whole.few; coded = runs.whole.coded }))
     not_migrated (load.CodeUnsafe number) h = unfit (load.CodeUnsafe number) h (λ e. absurd cc) (λ runs. first_unsafe i.codes number h.1 runs.safe)
     not_migrated load.NotLinked h = absurd h
-    not_migrated load.NoMemory h = calm
+    not_migrated load.NoMemory h = same_faults
 
 -- all stages of an image that was migrated pass
-pub migrate_passes : (files : Change Held) (name : List ℕ) (migrated : Image) → Migrates files.old name migrated → AllPass files (migrate_stages name)
+pub migrate_passes : (files : Change Held) (name : List ℕ) (migrated : Image) → Migrates files.old.content name migrated → AllPass files (migrate_stages name)
 migrate_passes files name migrated m = (
   (m.bytes, m.has),
   (
@@ -115,7 +115,7 @@ migrate_passes files name migrated m = (
 pub same_image : (bytes : List ℕ) (i : Image) → ((other : Image) → IsImage other bytes → Answers bytes (Ok i) (Ok other)) → (other : Image) → IsImage other bytes → other ≡ i
 same_image bytes i only other is = let z = only other is in cc
 
--- what was loaded can be run
+-- a loaded image can be run
 pub ready : (bytes : List ℕ) (loaded : Loaded) → LoadsBytes bytes loaded → IsReadyImage loaded
 ready bytes loaded loads =
     let runs = loads.runs.runs in
@@ -133,7 +133,7 @@ module _ (name : List ℕ) (loaded : Loaded) where
     only_imaged other o = o.network_is ∙ ap (λ i. network_in (loaded_of i)) (image.loads.only o.i o.runs.is) ∙ ap network_in (sym image.loads.loaded_is)
 
   -- and all stages of the image pass
-  image_passes : (files : Change Held) → LoadsImage files.old name loaded → AllPass files (image_stages name)
+  image_passes : (files : Change Held) → LoadsImage files.old.content name loaded → AllPass files (image_stages name)
   image_passes files image =
       let loads = image.loads in
       ((image.bytes, image.has), ((loads.i, record { bytes = image.bytes; has = image.has; are = loads.runs.is }), ((loads.i, record { bytes = image.bytes; has = image.has; are = loads.runs }), tt)))

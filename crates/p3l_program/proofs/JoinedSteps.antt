@@ -1,5 +1,5 @@
--- How the lines, the items and the text of two blocks follow one another.
-use Rattle.std.proofs.Common.{◌≡◌, ◌↔◌, ℕ, ℤ, suc, ◌+◌, ◌<◌, Bool, true, false, cond, List, [], ◌∷◌, ◌++◌, length, map, refl, ap, sym, subst, ◌∙◌, arith, append_assoc, append-nil}
+-- Lines, items and texts of two blocks, one after the other.
+use Rattle.std.proofs.Common.{◌≡◌, ◌↔◌, ℕ, ℤ, ◌+◌, ◌<◌, true, false, cond, List, [], ◌∷◌, ◌++◌, length, map, refl, ap, sym, subst, ◌∙◌, arith, append_assoc, append-nil}
 use Rattle.std.specs.List.{AllByRecursion, onto_first, slice_split}
 use Rattle.std.specs.Str.Lines.{strip_carriage_return}
 use Rattle.std.proofs.lemmas.List.Splits.{length-slice_split}
@@ -8,9 +8,8 @@ use Rattle.p3l_base.specs.declared.outcome.Outcome.TheVariants.{Value, Trapped}
 use Rattle.p3l_skel.specs.declared.tree.Tree.{Tree}
 use Rattle.p3l_skel.specs.Item.{item, meaning, up_to_trap}
 use Rattle.p3l_stream.specs.declared.taken.Cutoff.TheVariants as stop
-use Rattle.p3l_stream.specs.declared.line.Line.{Line}
-use Rattle.p3l_stream.specs.declared.line.Line.TheVariants as line
-use Rattle.p3l_stream.specs.declared.items.Ending.{Ending}
+use Rattle.p3l_stream.specs.declared.line.LineContent.{LineContent}
+use Rattle.p3l_stream.specs.declared.line.LineContent.TheVariants as line
 use Rattle.p3l_stream.specs.declared.items.Ending.TheVariants as ending
 use Rattle.p3l_stream.specs.declared.items.Items.{Items}
 use Rattle.p3l_stream.specs.Items.{items_of, items_of_lines, put_line}
@@ -20,7 +19,7 @@ use Rattle.p3l_run.specs.Sampling.{IsValue}
 use Rattle.p3l_run.specs.Network.{Network, meaning_of, width_of}
 use Rattle.p3l_run.specs.Start.{fresh, outcomes_from}
 use Rattle.p3l_run.proofs.WriteSteps.{text_more}
-use Rattle.p3l_program.specs.Joined.{BlocksJoin, Joins, block}
+use Rattle.p3l_program.specs.Joined.{BlocksJoin, block}
 
 -- PARTS BETWEEN LINE FEEDS
 
@@ -69,7 +68,7 @@ abbrev ends : Items → Type 0
 ends seen = seen.ending ≡ ending.End
 
 -- the numbers of lines stand in endings alone
-put_anywhere : (l : Line) (k m : ℕ) (r s : Items) → r.items ≡ s.items → (put_line l k r).items ≡ (put_line l m s).items
+put_anywhere : (l : LineContent) (k m : ℕ) (r s : Items) → r.items ≡ s.items → (put_line l k r).items ≡ (put_line l m s).items
 put_anywhere line.Blank k m r s same = same
 put_anywhere (line.Item words) k m r s same = ap (λ z. words ∷ z) same
 put_anywhere _ k m r s same = refl
@@ -78,7 +77,7 @@ items_anywhere : (width k m : ℕ) (lines : List (List ℕ)) → (items_of_lines
 items_anywhere width k m [] = refl
 items_anywhere width k m (bytes ∷ lines) = put_anywhere (line_of width bytes) k m _ _ (items_anywhere width (k + 1) (m + 1) lines)
 
-end_put : (l : Line) (k m : ℕ) (r s : Items) → (ends r → ends s) → ends (put_line l k r) → ends (put_line l m s)
+end_put : (l : LineContent) (k m : ℕ) (r s : Items) → (ends r → ends s) → ends (put_line l k r) → ends (put_line l m s)
 end_put line.Blank k m r s more h = more h
 end_put (line.Item words) k m r s more h = more h
 end_put line.BadWord k m r s more h = absurd (cc)
@@ -90,7 +89,7 @@ end_anywhere width k m [] h = refl
 end_anywhere width k m (bytes ∷ lines) h = end_put (line_of width bytes) k m _ _ (end_anywhere width (k + 1) (m + 1) lines) h
 
 -- a line before more
-put_more : (l : Line) (k : ℕ) (r s : Items) (more : List (List ℤ)) → (ends r → s.items ≡ r.items ++ more) → ends (put_line l k r) → (put_line l k s).items ≡ (put_line l k r).items ++ more
+put_more : (l : LineContent) (k : ℕ) (r s : Items) (more : List (List ℤ)) → (ends r → s.items ≡ r.items ++ more) → ends (put_line l k r) → (put_line l k s).items ≡ (put_line l k r).items ++ more
 put_more line.Blank k r s more next h = next h
 put_more (line.Item words) k r s more next h = ap (λ z. words ∷ z) (next h)
 put_more line.BadWord k r s more next h = absurd (cc)
@@ -102,7 +101,7 @@ items_more : (width k : ℕ) (first more : List (List ℕ)) → ends (items_of_l
 items_more width k [] more h = items_anywhere width k 1 more
 items_more width k (bytes ∷ first) more h = put_more (line_of width bytes) k _ _ _ (items_more width (k + 1) first more) h
 
-end_both : (l : Line) (k : ℕ) (r s : Items) (E : Type 0) → (ends r → ends s ↔ E) → ends (put_line l k r) → ends (put_line l k s) ↔ E
+end_both : (l : LineContent) (k : ℕ) (r s : Items) (E : Type 0) → (ends r → ends s ↔ E) → ends (put_line l k r) → ends (put_line l k s) ↔ E
 end_both line.Blank k r s E next h = next h
 end_both (line.Item words) k r s E next h = next h
 end_both line.BadWord k r s E next h = absurd (cc)

@@ -3,6 +3,7 @@ use Rattle.std.proofs.Common.{◌≡◌, ℕ, List, ◌++◌, Option, Some, refl
 use Rattle.std.specs.declared.result.Result.TheVariants.{Err}
 use Rattle.p3l_ast.specs.declared.position.Pos.{Pos}
 use Rattle.p3l_ast.specs.declared.refusal.Fault.{Fault}
+use Rattle.p3l_io.specs.Change.{Change, HasSameFaults}
 use Rattle.p3l_io.specs.Content.{Held}
 use Rattle.p3l_skel.specs.declared.tree.Tree.{Tree}
 use Rattle.p3l_skel.specs.Numbers.{procs}
@@ -32,41 +33,34 @@ use Rattle.p3l_program.specs.File.{HasText, text_limit}
 use Rattle.p3l_program.specs.Load.{IsCostless, IsLoaded, IsNotLoaded, IsUnchosen}
 use Rattle.p3l_program.specs.Source.{ComesToTree}
 use Rattle.p3l_program.specs.Stage.{AllPass, Stage, build_stages, cost_stages, program_stages}
-use Rattle.p3l_program.specs.World.{Change, IsCalm}
 use Rattle.p3l_program.proofs.StageSteps.{refused_front}
 use Rattle.p3l_program.proofs.TreeSteps as trees
 
--- files that report the same at the beginning
-pub same_change : (old old' new : Option Held) (before before' now : ℕ) (failed : Option (List ℕ)) → old ≡ old' → before ≡ before' →
-    let a : Change Held = record { old = old; new = new; before = before; now = now; failed = failed } in
-    let b : Change Held = record { old = old'; new = new; before = before'; now = now; failed = failed } in a ≡ b
-same_change old old' new before before' now failed a b = cc
-
--- what doesn't load is not loaded, whatever stages come after
+-- if stages don't load a value, more stages don't either
 pub not_loaded_front : (files : Change Held) (stages more : List Stage) (v : Verdict) → IsNotLoaded files stages v → IsNotLoaded files (stages ++ more) v
 not_loaded_front files stages more (verdict.Refused r) h = (refused_front files stages more r h.0, h.1)
 not_loaded_front files stages more verdict.NoMemory h = h
 not_loaded_front files stages more v h = absurd h
 
 -- a text that is refused stops the stages of a program at their second
-pub refused_text : (files : Change Held) (name text : List ℕ) (fault : Fault) (pos : Pos) → HasText files.old text_limit name text → IsNotAccepted text fault pos → IsCalm files →
+pub refused_text : (files : Change Held) (name text : List ℕ) (fault : Fault) (pos : Pos) → HasText files.old.content text_limit name text → IsNotAccepted text fault pos → HasSameFaults files →
     IsNotLoaded files (program_stages name) (verdict.Refused (refusal.Source fault pos))
-refused_text files name text fault pos has refused calm = (inr ((text, has), inl (record { text = text; has = has; refused = refused })), calm)
+refused_text files name text fault pos has refused same_faults = (inr ((text, has), inl (record { text = text; has = has; refused = refused })), same_faults)
 
 -- a text of costs that is refused
-pub unsaid : (files : Change Held) (name : List ℕ) (tree : Tree) (said : List ℕ) (r : CostRefusal) → HasText files.old text_limit name said → IsRead tree said (Err r) → IsCalm files →
+pub unsaid : (files : Change Held) (name : List ℕ) (tree : Tree) (said : List ℕ) (r : CostRefusal) → HasText files.old.content text_limit name said → IsRead tree said (Err r) → HasSameFaults files →
     IsCostless files (Some name) tree (verdict_of (refusal.Costs r))
-unsaid files name tree said costs.NotToml has read calm = inr (record { said = said; has = has; no_costs = record { read = read; named = λ e. absurd cc }; calm = calm })
-unsaid files name tree said (costs.BadKey key) has read calm = inr (record { said = said; has = has; no_costs = record { read = read; named = λ e. absurd cc }; calm = calm })
-unsaid files name tree said (costs.BadValue key) has read calm = inr (record { said = said; has = has; no_costs = record { read = read; named = λ e. absurd cc }; calm = calm })
-unsaid files name tree said (costs.Missing key) has read calm = inr (record { said = said; has = has; no_costs = record { read = read; named = λ e. absurd cc }; calm = calm })
-unsaid files name tree said costs.NoMemory has read calm = calm
+unsaid files name tree said costs.NotToml has read same_faults = inr (record { said = said; has = has; no_costs = record { read = read; named = λ e. absurd cc }; same_faults = same_faults })
+unsaid files name tree said (costs.BadKey key) has read same_faults = inr (record { said = said; has = has; no_costs = record { read = read; named = λ e. absurd cc }; same_faults = same_faults })
+unsaid files name tree said (costs.BadValue key) has read same_faults = inr (record { said = said; has = has; no_costs = record { read = read; named = λ e. absurd cc }; same_faults = same_faults })
+unsaid files name tree said (costs.Missing key) has read same_faults = inr (record { said = said; has = has; no_costs = record { read = read; named = λ e. absurd cc }; same_faults = same_faults })
+unsaid files name tree said costs.NoMemory has read same_faults = same_faults
 
 -- the tree of an accepted program
 its_tree : (text : List ℕ) (r : ResolvedTree) (program : Accepted) → ComesTo text r program → ComesToTree text r program.tree
 its_tree text r program comes = record { accepted = comes.accepted; only = comes.only; tree_is = comes.compiled.tree_is; lawful = comes.compiled.lawful }
 
-module _ (files : Change Held) (name : List ℕ) (r : ResolvedTree) (program : Accepted) (text : List ℕ) (has : HasText files.old text_limit name text) (comes : ComesTo text r program) where
+module _ (files : Change Held) (name : List ℕ) (r : ResolvedTree) (program : Accepted) (text : List ℕ) (has : HasText files.old.content text_limit name text) (comes : ComesTo text r program) where
   pub program_passes : AllPass files (program_stages name)
   program_passes = trees.program_passes files name r program.tree text has (its_tree text r program comes)
 
@@ -74,21 +68,21 @@ module _ (files : Change Held) (name : List ℕ) (r : ResolvedTree) (program : A
   pub priced_here : (said : Option (List ℕ)) (cs : Costs) → AreSaid program.tree said cs → IsPriced text said r cs
   priced_here = trees.priced_here files name r program.tree text has (its_tree text r program comes)
 
-  -- where no costs are loaded their stages don't pass, whatever stages come after
+  -- if no costs are loaded, their stages don't pass, whatever stages come after
   pub costless : (costs : Option (List ℕ)) (more : List Stage) (v : Verdict) → IsCostless files costs program.tree v → IsNotLoaded files (program_stages name ++ (cost_stages name costs ++ more)) v
   costless = trees.costless files name r program.tree text has (its_tree text r program comes)
 
-  pub costs_pass : (costs said : Option (List ℕ)) (cs : Costs) → HasCostText files.old costs said → AreSaid program.tree said cs → AllPass files (cost_stages name costs)
+  pub costs_pass : (costs said : Option (List ℕ)) (cs : Costs) → HasCostText files.old.content costs said → AreSaid program.tree said cs → AllPass files (cost_stages name costs)
   costs_pass = trees.costs_pass files name r program.tree text has (its_tree text r program comes)
 
-module _ (files : Change Held) (build : Build) (r : ResolvedTree) (program : Accepted) (text : List ℕ) (has : HasText files.old text_limit build.program text) (comes : ComesTo text r program) where
-  -- where no counts are chosen the stages of a build don't pass
+module _ (files : Change Held) (build : Build) (r : ResolvedTree) (program : Accepted) (text : List ℕ) (has : HasText files.old.content text_limit build.program text) (comes : ComesTo text r program) where
+  -- if no counts are chosen, the stages of a build don't pass
   pub unchosen : (v : Verdict) → IsUnchosen files build.costs program.tree build.processors v → IsNotLoaded files (build_stages build) v
   unchosen = trees.unchosen files build r program.tree text has (its_tree text r program comes)
 
 module _ (build : Build) (r : ResolvedTree) (loaded : Allotted) where
-  -- where all is loaded all stages of a build pass
-  pub loaded_passes : (files : Change Held) → IsLoaded files.old build r loaded → AllPass files (build_stages build)
+  -- if all is loaded, all stages of a build pass
+  pub loaded_passes : (files : Change Held) → IsLoaded files.old.content build r loaded → AllPass files (build_stages build)
   loaded_passes files is =
       trees.counts_pass files build r loaded.costs loaded.choice.counts.list (record { text = is.text; has = is.has; said = is.said; says = is.says; allotted = is.allotted })
 

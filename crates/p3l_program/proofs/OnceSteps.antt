@@ -52,7 +52,7 @@ allotted_once text said processors r other cs costs counts others only one two =
     (tree, chosen_once r.tree cs processors others counts chosen one.chosen)
 
 module _ (files : Option Held) (build : Build) (r : ResolvedTree) (loaded : Allotted) (is : IsLoaded files build r loaded) where
-  -- what is allotted to the program is what was loaded
+  -- the network of the loaded program is the one that is requested
   same_counts : (other : ResolvedTree) (others : Costs) (counts : List ℕ) → IsAllotted is.text is.said build.processors other others counts → (other ≡ r) × (counts ≡ loaded.choice.counts.list)
   same_counts other others counts p = allotted_once is.text is.said build.processors r other loaded.costs others loaded.choice.counts.list counts is.comes.only is.allotted p
 

@@ -40,7 +40,7 @@ word_once text g w a h v b one two =
     let words = same_word w a v b gaps.1 (of_word w one.is_word) one.ends (of_word v two.is_word) two.ends in
     (gaps.0, words.0, words.1)
 
--- where all is a gap there is no word
+-- a text that is all gap has no word
 no_word : (text g w a : List ℕ) → AreGap text → IsAtWord text g w a → ⊥
 no_word text g w a gap at = by g w (subst AreGap at.text_is gap) at.is_word
   where

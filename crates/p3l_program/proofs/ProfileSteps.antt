@@ -5,6 +5,7 @@ use Rattle.std.specs.List.{All, list_any}
 use Rattle.p3l_base.specs.declared.outcome.Outcome.{Outcome}
 use Rattle.p3l_base.specs.declared.outcome.Outcome.TheVariants.{Value, Trapped}
 use Rattle.p3l_base.specs.declared.outcome.TrapKind.{TrapKind}
+use Rattle.p3l_io.specs.Change.{Change, HasRisen, HasSameFaults}
 use Rattle.p3l_io.specs.Content.{Held}
 use Rattle.p3l_skel.specs.declared.tree.Tree.{Tree}
 use Rattle.p3l_skel.specs.Lawful.{IsLawfulTree}
@@ -42,8 +43,8 @@ use Rattle.p3l_program.specs.Load.{IsProgram}
 use Rattle.p3l_program.specs.Plan.{IsCompiled, network_of}
 use Rattle.p3l_program.specs.Profile.{BeginsProfile, ClosesSo, ClosesSome, EndsProfile, GivesAll, HasProgram, HaveValues, IsClosedProfile, IsNoted, IsProfileExpected, IsProfileOf, IsProfileStatus, IsProfiled, NotesSome, ProfilesWhole, StopsSo, Subject, TrapsSo, coded, cost_file, is_trap, outcome_on, profile_status, subject_of, subject_width}
 use Rattle.p3l_program.specs.Run.{seen_of}
-use Rattle.p3l_program.specs.World.{Change, HasNoFault, HasRisen, IsCalm, World, world}
-use Rattle.p3l_program.proofs.EndSteps.{ended_known}
+use Rattle.p3l_program.specs.World.{HasNoFault, World, world}
+use Rattle.p3l_program.proofs.EndSteps.{ended_known, ended_same_faults}
 use Rattle.p3l_program.proofs.LoadSteps.{program_passes}
 use Rattle.p3l_program.proofs.SeenSteps.{GoesOnTo, ending_unstopped, seen_goes_on}
 
@@ -60,37 +61,37 @@ module _ (tree : Tree) (codes : List Code) (known : HasTheGreatest) (g : Greates
   file_is items noted = ap (text_of tree) noted ∙ known tree (notes_of tree served items)
 
   abbrev Ended : Ending → Type 0
-  Ended close = EndsSo tree served start g input.old input.new input.before input.now close
+  Ended close = EndsSo tree served start g input close
 
   all_given : (close : Ending) → Ended close → GivesAll (coded tree codes) input close
   all_given close h = record { stream = h.s; items = h.items; gives = h.gives; values = h.noted.values }
 
-  noted_so : (close : Ending) → Ended close → (close ≡ ending.End) × HasPut out.old out.new (text_of tree g) → IsNoted (coded tree codes) input out
+  noted_so : (close : Ending) → Ended close → (close ≡ ending.End) × HasPut out (text_of tree g) → IsNoted (coded tree codes) input out
   unfolding all_given
   noted_so close h c = (let ends = subst (λ e. Ended e) c.0 h in record {
     all = all_given ending.End ends;
-    put = subst (λ text. HasPut out.old out.new text) (file_is ends.items ends.noted.noted) c.1;
+    put = subst (λ text. HasPut out text) (file_is ends.items ends.noted.noted) c.1;
   })
 
   notes_some : (close : Ending) → Ended close → ClosesSome tree g close out → NotesSome (coded tree codes) input out
   unfolding all_given
   notes_some close h c = (let ends = subst (λ e. Ended e) c.0 h in record {
     all = all_given ending.End ends;
-    begun = subst (λ text. HasBegun out.old out.new text) (file_is ends.items ends.noted.noted) c.1;
+    begun = subst (λ text. HasBegun out text) (file_is ends.items ends.noted.noted) c.1;
   })
 
   profiled_so : (close : Ending) → Ended close → (f : Finish) → ClosesSo tree g close out f → IsProfiled (coded tree codes) input out f
   profiled_so close h finish.Done c = noted_so close h c
-  profiled_so close h (finish.Run (end.Stream other)) c = subst (StopsSo (coded tree codes) input out) (sym c.0) (record { other = c.1; all = all_given close h; out_still = c.2 })
+  profiled_so close h (finish.Run (end.Stream other)) c = subst (StopsSo (coded tree codes) input out) (sym c.0) (record { other = c.1; all = all_given close h; output_still = c.2 })
   profiled_so close h (finish.Run (end.Stopped fired idle)) c = absurd c
   profiled_so close h (finish.Run (end.Trapped number kind home)) c = absurd c
   profiled_so close h (finish.Differs line) c = absurd c
 
   -- and this is how its profile ends
-  pub profile_of : (end : Sampled) → IsSampled tree served start g input.old input.new input.before input.now end → (v : Verdict) → IsClosedProfile tree g end out v → IsProfileOf (coded tree codes) input out v
+  pub profile_of : (end : Sampled) → IsSampled tree served start g input end → (v : Verdict) → IsClosedProfile tree g end out v → IsProfileOf (coded tree codes) input out v
   profile_of (sampled.Trapped number kind home) s (verdict.Ended f stats) c = (
     c.0,
-    c.2.calm,
+    c.2.same_faults,
     subst (λ f. IsProfiled (coded tree codes) input out f) (sym c.1) (record {
       stream = s.s;
       items = s.items;
@@ -101,7 +102,7 @@ module _ (tree : Tree) (codes : List Code) (known : HasTheGreatest) (g : Greates
       traps = s.traps;
       name_is = refl;
       number_is = s.number_is;
-      out_still = c.2;
+      output_still = c.2;
     }),
   )
   profile_of (sampled.Stream close) s (verdict.Ended f stats) c = (c.0, c.1, profiled_so close s f c.2)
@@ -128,7 +129,7 @@ abbrev subject : Tree → (ℕ → List ℤ → Outcome) → List Code → Subje
 subject tree leaf codes = record { tree = tree; leaf = leaf; codes = codes }
 
 -- a program that was loaded and profiled
-module _ (files : Change Held) (input out : Change (List ℕ)) (name : List ℕ) (r : ResolvedTree) (accepted : Accepted) (is : IsProgram files.old name r accepted) where
+module _ (files : Change Held) (input out : Change (List ℕ)) (name : List ℕ) (r : ResolvedTree) (accepted : Accepted) (is : IsProgram files.old.content name r accepted) where
   compiled : IsCompiled r accepted
   compiled = is.comes.compiled
 
@@ -139,33 +140,33 @@ module _ (files : Change Held) (input out : Change (List ℕ)) (name : List ℕ)
       ∙ ap (λ t. subject t (body_leaf t r.seqs) accepted.codes) compiled.tree_is
       ∙ ap (subject r.tree (body_leaf r.tree r.seqs)) (all_codes r.seqs accepted.codes compiled.codes)
 
-  has : HasProgram files.old name r
+  has : HasProgram files.old.content name r
   has = record { text = is.text; has = is.has; accepted = is.comes.accepted; only = is.comes.only }
 
-  begins : IsCalm files → (NotesSome (subject_of r) input out) → BeginsProfile (world files input out) name
-  begins calm some = record { r = r; has = has; begun = inr some }
+  begins : HasSameFaults files → (NotesSome (subject_of r) input out) → BeginsProfile (world files input out) name
+  begins same_faults some = record { r = r; has = has; begun = inr some }
 
-  expected : IsCalm files → (v : Verdict) → IsProfileOf (subject_of r) input out v → IsProfileExpected (world files input out) name v
-  expected calm (verdict.Ended f stats) h = record {
+  expected : HasSameFaults files → (v : Verdict) → IsProfileOf (subject_of r) input out v → IsProfileExpected (world files input out) name v
+  expected same_faults (verdict.Ended f stats) h = record {
     passed = program_passes files name r accepted is.text is.has is.comes;
     ends = record { r = r; has = has; stats_are = h.0; profiled = h.2 };
-    files = calm;
-    out = h.1;
+    files = same_faults;
+    output = h.1;
   }
-  expected calm verdict.WriteFault h = record {
-    begun = record { passed = program_passes files name r accepted is.text is.has is.comes; begins = begins calm h.0 };
-    fault = inl (record { files = calm; out = h.1 });
+  expected same_faults verdict.WriteFault h = record {
+    begun = record { passed = program_passes files name r accepted is.text is.has is.comes; begins = begins same_faults h.0 };
+    fault = inl (record { files = same_faults; output = h.1 });
   }
-  expected calm verdict.NoMemory (inl h) = inr (record {
+  expected same_faults verdict.NoMemory (inl h) = inr (record {
     passed = program_passes files name r accepted is.text is.has is.comes;
     begins = record { r = r; has = has; begun = inl h };
   })
-  expected calm verdict.NoMemory (inr h) = inr (record { passed = program_passes files name r accepted is.text is.has is.comes; begins = begins calm h })
-  expected calm (verdict.Refused refused) h = absurd h
+  expected same_faults verdict.NoMemory (inr h) = inr (record { passed = program_passes files name r accepted is.text is.has is.comes; begins = begins same_faults h })
+  expected same_faults (verdict.Refused refused) h = absurd h
 
   -- the verdict of the profile is expected
-  pub profile_expected : IsCalm files → (v : Verdict) → IsProfileOf (coded accepted.tree accepted.codes) input out v → IsProfileExpected (world files input out) name v
-  profile_expected calm v h = expected calm v (subst (λ p. IsProfileOf p input out v) same h)
+  pub profile_expected : HasSameFaults files → (v : Verdict) → IsProfileOf (coded accepted.tree accepted.codes) input out v → IsProfileExpected (world files input out) name v
+  profile_expected same_faults v h = expected same_faults v (subst (λ p. IsProfileOf p input out v) same h)
 
 -- a profile that came to its end was begun
 pub ends_profile : (w : World) (name : List ℕ) (f : Finish) (stats : Option Stats) → EndsProfile w name f stats → BeginsProfile w name
@@ -182,32 +183,24 @@ ends_profile w name finish.Done stats h = record {
     };
   });
 }
-ends_profile w name (finish.Run (end.Stream close)) stats h = record { r = h.r; has = h.has; begun = inl h.profiled.out_still }
-ends_profile w name (finish.Run (end.Trapped number kind home)) stats h = record { r = h.r; has = h.has; begun = inl h.profiled.out_still }
+ends_profile w name (finish.Run (end.Stream close)) stats h = record { r = h.r; has = h.has; begun = inl h.profiled.output_still }
+ends_profile w name (finish.Run (end.Trapped number kind home)) stats h = record { r = h.r; has = h.has; begun = inl h.profiled.output_still }
 ends_profile w name (finish.Run (end.Stopped fired idle)) stats h = absurd h.profiled
 ends_profile w name (finish.Differs line) stats h = absurd h.profiled
 
--- an ending that is no fault of reading lets the count of the input stay
-calm_close : (close : Ending) (before now : ℕ) → (ending_status close ≡ status.read → ⊥) → GivenCause (Some (Ok close)) before now → now ≡ before
-calm_close ending.End before now other cause = cause
-calm_close (ending.BadWord line) before now other cause = cause
-calm_close (ending.WrongCount line had) before now other cause = cause
-calm_close (ending.OutOfRange line) before now other cause = cause
-calm_close ending.ReadFault before now other cause = absurd (other refl)
-calm_close ending.TooLong before now other cause = cause
-
-pub profile_calm : (w : World) (name : List ℕ) (f : Finish) (stats : Option Stats) → EndsProfile w name f stats → (finish_status f ≡ status.trap → ⊥) → (finish_status f ≡ status.read → ⊥) → w.input.now ≡ w.input.before
-profile_calm w name finish.Done stats h trap read = h.profiled.all.gives.cause
-profile_calm w name (finish.Run (end.Stream close)) stats h trap read = calm_close close _ _ read h.profiled.all.gives.cause
-profile_calm w name (finish.Run (end.Trapped number kind home)) stats h trap read = absurd (trap refl)
-profile_calm w name (finish.Run (end.Stopped fired idle)) stats h trap read = absurd h.profiled
-profile_calm w name (finish.Differs line) stats h trap read = absurd h.profiled
+-- a profile that is stopped neither by a trap nor by a fault of reading lets the count of the input stay
+pub profile_same_faults : (w : World) (name : List ℕ) (f : Finish) (stats : Option Stats) → EndsProfile w name f stats → (finish_status f ≡ status.trap → ⊥) → (finish_status f ≡ status.read → ⊥) → HasSameFaults w.input
+profile_same_faults w name finish.Done stats h trap read = h.profiled.all.gives.cause
+profile_same_faults w name (finish.Run (end.Stream close)) stats h trap read = ended_same_faults close w.input read h.profiled.all.gives.cause
+profile_same_faults w name (finish.Run (end.Trapped number kind home)) stats h trap read = absurd (trap refl)
+profile_same_faults w name (finish.Run (end.Stopped fired idle)) stats h trap read = absurd h.profiled
+profile_same_faults w name (finish.Differs line) stats h trap read = absurd h.profiled
 
 -- a fault of reading is answered where the count of the input rose
 pub profile_read : (w : World) (name : List ℕ) (f : Finish) (stats : Option Stats) → EndsProfile w name f stats → finish_status f ≡ status.read → HasRisen w.input
 profile_read w name finish.Done stats h is = absurd (omega arith)
 profile_read w name (finish.Run (end.Stream close)) stats h is =
-    subst (λ e. GivenCause (Some (Ok e)) w.input.before w.input.now) (statuses.read_is close is) h.profiled.all.gives.cause
+    subst (λ e. GivenCause (Some (Ok e)) w.input) (statuses.read_is close is) h.profiled.all.gives.cause
 profile_read w name (finish.Run (end.Trapped number kind home)) stats h is = absurd (omega arith)
 profile_read w name (finish.Run (end.Stopped fired idle)) stats h is = absurd h.profiled
 profile_read w name (finish.Differs line) stats h is = absurd h.profiled
@@ -221,21 +214,21 @@ profile_unstopped w name (finish.Run (end.Stopped fired idle)) stats h is = h.pr
 profile_unstopped w name (finish.Differs line) stats h is = h.profiled
 
 -- the items of an input that came to its end are those that it gave
-module _ (p : Subject) (input : Change (List ℕ)) (rest : List ℕ) (known : input.old ≡ Some rest) (all : GivesAll p input ending.End) where
+module _ (p : Subject) (input : Change (List ℕ)) (rest : List ℕ) (known : input.old.content ≡ Some rest) (all : GivesAll p input ending.End) where
   closes : Closes (subject_width p) all.stream all.gives.bytes all.items (closed_so (Some ending.End))
   closes = subst (λ c. Closes (subject_width p) all.stream all.gives.bytes all.items c) all.gives.closed_is all.gives.given.closes
 
-  ended : (input.new ≡ Some []) × (all.gives.bytes ≡ rest)
-  ended = ended_known input.old input.new rest all.gives.bytes known all.gives.read (all.gives.at_end closes.0)
+  ended : (input.new.content ≡ Some []) × (all.gives.bytes ≡ rest)
+  ended = ended_known input rest all.gives.bytes known all.gives.read (all.gives.at_end closes.0)
 
-  pub at_end : input.new ≡ Some []
+  pub at_end : input.new.content ≡ Some []
   at_end = ended.0
 
   pub all_items : items_of (subject_width p) rest ≡ ended_by all.items ending.End
   all_items = ap (items_of (subject_width p)) (sym ended.1) ∙ closes.1
 
 -- a profile of status 0 is whole
-pub profile_whole : (w : World) (name rest taken : List ℕ) (f : Finish) (stats : Option Stats) → ((text : List ℕ) → HasPut w.out.old w.out.new text → w.out.new ≡ Some (taken ++ text)) → w.input.old ≡ Some rest → finish_status f ≡ status.done →
+pub profile_whole : (w : World) (name rest taken : List ℕ) (f : Finish) (stats : Option Stats) → ((text : List ℕ) → HasPut w.output text → w.output.new.content ≡ Some (taken ++ text)) → w.input.old.content ≡ Some rest → finish_status f ≡ status.done →
     EndsProfile w name f stats → ProfilesWhole w name rest taken
 profile_whole w name rest taken finish.Done stats put input is h =
     let p = subject_of h.r in
@@ -247,14 +240,14 @@ profile_whole w name rest taken finish.Done stats put input is h =
       input_ended = at_end p w.input rest input all;
       all_items = ap (λ (i : Items). i.ending) same;
       values = subst (λ (i : Items). HaveValues p i.items) (sym same) all.values;
-      taken_is = subst (λ (i : Items). w.out.new ≡ Some (taken ++ cost_file p i.items)) (sym same) (put (cost_file p all.items) h.profiled.put);
+      taken_is = subst (λ (i : Items). w.output.new.content ≡ Some (taken ++ cost_file p i.items)) (sym same) (put (cost_file p all.items) h.profiled.put);
     }
 profile_whole w name rest taken (finish.Run (end.Stream close)) stats put input is h = absurd (h.profiled.other (statuses.done_is close is))
 profile_whole w name rest taken (finish.Run (end.Trapped number kind home)) stats put input is h = absurd (omega arith)
 profile_whole w name rest taken (finish.Run (end.Stopped fired idle)) stats put input is h = absurd h.profiled
 profile_whole w name rest taken (finish.Differs line) stats put input is h = absurd h.profiled
 
--- where a program has values on items none of them has a trap
+-- if a program has values on items, none of them has a trap
 no_trap : (o : Outcome) → IsValue o → is_trap o ≡ false
 no_trap (Value words) h = refl
 no_trap (Trapped trap) h = absurd h
@@ -287,7 +280,7 @@ module _ (p : Subject) where
 abbrev net_for : ResolvedTree → Network
 net_for r = network_of r [] 0
 
-module _ (r : ResolvedTree) (input : Change (List ℕ)) (rest : List ℕ) (known : input.old ≡ Some rest) (calm : HasRisen input → ⊥) where
+module _ (r : ResolvedTree) (input : Change (List ℕ)) (rest : List ℕ) (known : input.old.content ≡ Some rest) (faultless : HasRisen input → ⊥) where
   abbrev p : Subject
   p = subject_of r
 
@@ -296,30 +289,30 @@ module _ (r : ResolvedTree) (input : Change (List ℕ)) (rest : List ℕ) (known
 
   ended_status : (close : Ending) → GivesAll p input close → ending_status close ≡ profile_status p seen
   ended_status close all =
-      let to : GoesOnTo (net_for r) (Some close) all.items rest = seen_goes_on (net_for r) rest input.old input.new input.before input.now (Some close) all.stream all.items all.gives known calm in
+      let to : GoesOnTo (net_for r) (Some close) all.items rest = seen_goes_on (net_for r) rest input (Some close) all.stream all.items all.gives known faultless in
       sym (ap (profile_status p) to.seen ∙ value_status p all.items to.later to.e all.values (to.may_come.none close refl) ∙ ap ending_status (sym to.may_end))
 
   trapped_status : (out : Change (List ℕ)) (number : ℕ) (kind : TrapKind) (name : List ℕ) → TrapsSo p input out number kind name → status.trap ≡ profile_status p seen
   trapped_status out number kind name t =
-      let to : GoesOnTo (net_for r) None (t.items ++ t.words ∷ []) rest = seen_goes_on (net_for r) rest input.old input.new input.before input.now None t.stream (t.items ++ t.words ∷ []) t.gives known calm in
+      let to : GoesOnTo (net_for r) None (t.items ++ t.words ∷ []) rest = seen_goes_on (net_for r) rest input None t.stream (t.items ++ t.words ∷ []) t.gives known faultless in
       sym (ap (profile_status p) to.seen ∙ trap_status p t.items to.later t.words to.e t.values (ap is_trap t.traps))
 
--- where no fault comes the profile ends by what is seen of the input
-pub profile_status_expected : (w : World) (name rest : List ℕ) (f : Finish) (stats : Option Stats) → w.input.old ≡ Some rest → HasNoFault w → EndsProfile w name f stats → IsProfileStatus w name rest (finish_status f)
-profile_status_expected w name rest finish.Done stats known calm h = record {
+-- without a fault, the input as it is seen determines how the profile ends
+pub profile_status_expected : (w : World) (name rest : List ℕ) (f : Finish) (stats : Option Stats) → w.input.old.content ≡ Some rest → HasNoFault w → EndsProfile w name f stats → IsProfileStatus w name rest (finish_status f)
+profile_status_expected w name rest finish.Done stats known faultless h = record {
   r = h.r;
   has = h.has;
-  status_is = ended_status h.r w.input rest known calm.input ending.End h.profiled.all;
+  status_is = ended_status h.r w.input rest known faultless.input ending.End h.profiled.all;
 }
-profile_status_expected w name rest (finish.Run (end.Stream close)) stats known calm h = record {
+profile_status_expected w name rest (finish.Run (end.Stream close)) stats known faultless h = record {
   r = h.r;
   has = h.has;
-  status_is = ended_status h.r w.input rest known calm.input close h.profiled.all;
+  status_is = ended_status h.r w.input rest known faultless.input close h.profiled.all;
 }
-profile_status_expected w name rest (finish.Run (end.Trapped number kind home)) stats known calm h = record {
+profile_status_expected w name rest (finish.Run (end.Trapped number kind home)) stats known faultless h = record {
   r = h.r;
   has = h.has;
-  status_is = trapped_status h.r w.input rest known calm.input w.out number kind home h.profiled;
+  status_is = trapped_status h.r w.input rest known faultless.input w.output number kind home h.profiled;
 }
-profile_status_expected w name rest (finish.Run (end.Stopped fired idle)) stats known calm h = absurd h.profiled
-profile_status_expected w name rest (finish.Differs line) stats known calm h = absurd h.profiled
+profile_status_expected w name rest (finish.Run (end.Stopped fired idle)) stats known faultless h = absurd h.profiled
+profile_status_expected w name rest (finish.Differs line) stats known faultless h = absurd h.profiled

@@ -54,21 +54,21 @@ not_evidence n t seen k agrees (inl d) = absurd (never_differs n.tree n.leaf n.n
 not_evidence n t seen k agrees (inr h) = h.0
 
 pub accepted : BeginsNoOtherTrace → EveryRecordIsAccepted
-accepted begins w after origin request name reported finish stats rest build k e known calm still is =
+accepted begins w after origin request name reported finish stats rest build k e known faultless still is =
     let f = e.finishes in
-    let to = seen_goes_on e.n rest w.input.old w.input.new w.input.before w.input.now f.close f.stream f.items f.gives known calm in
+    let to = seen_goes_on e.n rest w.input f.close f.stream f.items f.gives known faultless in
     let agrees : Agrees e.n.tree e.n.leaf e.n.net (begun_with e.n (seen_of (width_of e.n) rest).items) e.recorded.t =
     subst (λ (i : Items). Agrees e.n.tree e.n.leaf e.n.net (begun_with e.n i.items) e.recorded.t) (sym to.seen) (e.recorded.is to.later to.may_come).agrees in
-    let trace : is.t ≡ e.recorded.t = same_trace begins after.files.old name e.recorded.t is.t e.recorded.fits still.stands is.has.trace in
+    let trace : is.t ≡ e.recorded.t = same_trace begins after.files.old.content name e.recorded.t is.t e.recorded.fits still.stands is.has.trace in
     let here : IsCheckStatus is.n e.recorded.t (seen_of (width_of is.n) rest) k = subst (λ t. IsCheckStatus is.n t (seen_of (width_of is.n) rest) k) trace is.status_is in
     let same : IsCheckStatus e.n e.recorded.t (seen_of (width_of e.n) rest) k = subst (λ m. IsCheckStatus m e.recorded.t (seen_of (width_of m) rest) k) (still.network is.n is.has.network) here in
     not_evidence e.n e.recorded.t (seen_of (width_of e.n) rest) k agrees same
 
 pub accepted_of_program : BeginsNoOtherTrace → EveryTraceOfAProgramIsAccepted
-accepted_of_program begins w after request name reported finish stats rest build k held e known calm files_are texts stands is =
-    accepted begins w after (built build) request name reported finish stats rest build k e known calm
+accepted_of_program begins w after request name reported finish stats rest build k held e known faultless files_are texts stands is =
+    accepted begins w after (built build) request name reported finish stats rest build k e known faultless
     (record {
-      network = λ other o. one_network w.files.old held build e.n other e.has.network texts (subst (λ f. HasNetwork f (built build) other) files_are o);
+      network = λ other o. one_network w.files.old.content held build e.n other e.has.network texts (subst (λ f. HasNetwork f (built build) other) files_are o);
       stands = stands;
     })
     is

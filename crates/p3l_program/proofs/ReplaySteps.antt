@@ -7,6 +7,7 @@ use Rattle.std.specs.Str.Parse.{AllDigits, digits_value}
 use Rattle.std.proofs.lemmas.Bool.{lt-ltb, ne_eqb}
 use Rattle.std.proofs.lemmas.Fmt.{decimal_is_IsNumeral}
 use Rattle.std.proofs.lemmas.Str.Parse.{IsDigitsTest, IsNumeralModel, digit_from_value, numerals_by_value}
+use Rattle.p3l_io.specs.Change.{Change, HasRisen}
 use Rattle.p3l_io.specs.Content.{Held}
 use Rattle.p3l_base.specs.declared.outcome.Outcome.{Outcome}
 use Rattle.p3l_skel.specs.declared.tree.Tree.{Tree}
@@ -16,7 +17,6 @@ use Rattle.p3l_run.specs.Network.{Network, course_of, size_of, stats_of, width_o
 use Rattle.p3l_run.specs.declared.keeping.Keeping.{Keeping}
 use Rattle.p3l_run.specs.declared.run.Ran.{Ran}
 use Rattle.p3l_run.specs.Run.{Finishes, finish_of}
-use Rattle.p3l_io.specs.Causes.{Rose}
 use Rattle.p3l_opts.specs.declared.command.Build.{Build}
 use Rattle.p3l_report.specs.declared.stats.Stats.{Stats}
 use Rattle.p3l_report.specs.declared.verdict.Finish.{Finish}
@@ -27,7 +27,7 @@ use Rattle.p3l_sched.specs.declared.schedule.Schedule.TheVariants.{Recorded}
 use Rattle.p3l_sched.specs.Picks.{AreGap, AreOfWord, AreRead, IsWord, Reads, is_feed, number_of, pick_of}
 use Rattle.p3l_stream.specs.declared.items.Items.{Items}
 use Rattle.p3l_trace.specs.declared.trace.TraceLine.{TraceLine}
-use Rattle.p3l_trace.specs.Agreement.{AgreeFrom, AllAgree}
+use Rattle.p3l_trace.specs.Agreement.{AgreeFrom}
 use Rattle.p3l_trace.specs.Agreement as lines
 use Rattle.p3l_program.specs.File.{HasText}
 use Rattle.p3l_program.specs.Origin.{built}
@@ -117,10 +117,10 @@ picks_there w build name finish report e =
 -- ---- a run under them ends alike
 
 -- on what is seen of its input a run of a network emits what the network does under its schedule, has its numbers and its end
-module _ (n : Network) (s : Schedule) (keeping : Keeping) (old left : Option (List ℕ)) (before now : ℕ) (taken taken' : Option (List ℕ)) (end : Ran) (f : Finishes n s keeping old left before now taken taken' end)
-    (rest : List ℕ) (known : old ≡ Some rest) (calm : Rose before now → ⊥) where
+module _ (n : Network) (s : Schedule) (keeping : Keeping) (input out : Change (List ℕ)) (end : Ran) (f : Finishes n s keeping input out end)
+    (rest : List ℕ) (known : input.old.content ≡ Some rest) (faultless : HasRisen input → ⊥) where
   abbrev to : GoesOnTo n f.close f.items rest
-  to = seen_goes_on n rest old left before now f.close f.stream f.items f.gives known calm
+  to = seen_goes_on n rest input f.close f.stream f.items f.gives known faultless
 
   items_are : f.items ++ to.later ≡ (seen_of (width_of n) rest).items
   items_are = ap (λ (i : Items). i.items) (sym to.seen)
@@ -147,20 +147,20 @@ replayed w build name finish report held e has =
     let reads : Reads (picks_text e.to.picks) (size_of e.n) (Ok e.to.picks) = reads_again (size_of e.n) e.to.picks (omega (arith, few)) there in
     record {
       reads = record { text = picks_text e.to.picks; has = has; picks = e.to.picks; reads = reads; is = refl };
-      alike = λ after trace reported other_finish stats rest r files_are texts input other_input calm other_calm.
-          let same : r.n ≡ e.n = one_network w.files.old held build e.n r.n e.has.network texts (subst (λ f. HasNetwork f (built build) r.n) files_are r.has.network) in
+      alike = λ after trace reported other_finish stats rest r files_are texts input other_input faultless other_faultless.
+          let same : r.n ≡ e.n = one_network w.files.old.content held build e.n r.n e.has.network texts (subst (λ f. HasNetwork f (built build) r.n) files_are r.has.network) in
           let p : HasPicks (Some held) (size_of r.n) name r.s = subst (λ h. HasPicks h (size_of r.n) name r.s) files_are r.has.schedule in
           let text : p.text ≡ picks_text e.to.picks = one_text held name (picks_text e.to.picks) p.text has p.has in
           let read : Reads (picks_text e.to.picks) (size_of e.n) (Ok p.picks) = subst (λ t. Reads t (size_of e.n) (Ok p.picks)) text (subst (λ (n : Network). Reads p.text (size_of n) (Ok p.picks)) same p.reads) in
           let s_is : r.s ≡ Recorded e.to.picks = p.is ∙ ap Recorded (picks_once (picks_text e.to.picks) (size_of e.n) p.picks e.to.picks read reads) in
           let f = r.finishes in
           let g = e.to.runs.finishes in
-          let mine = outcomes_seen e.n (Recorded e.to.picks) _ _ _ _ _ _ _ e.to.ran g rest input calm in
-          let here = outcomes_seen r.n r.s _ _ _ _ _ _ _ r.ran f rest other_input other_calm in
-          let my_numbers = numbers_seen e.n (Recorded e.to.picks) _ _ _ _ _ _ _ e.to.ran g rest input calm in
-          let here_numbers = numbers_seen r.n r.s _ _ _ _ _ _ _ r.ran f rest other_input other_calm in
-          let my_finish = finish_seen e.n (Recorded e.to.picks) _ _ _ _ _ _ _ e.to.ran g rest input calm in
-          let here_finish = finish_seen r.n r.s _ _ _ _ _ _ _ r.ran f rest other_input other_calm in
+          let mine = outcomes_seen e.n (Recorded e.to.picks) _ _ _ e.to.ran g rest input faultless in
+          let here = outcomes_seen r.n r.s _ _ _ r.ran f rest other_input other_faultless in
+          let my_numbers = numbers_seen e.n (Recorded e.to.picks) _ _ _ e.to.ran g rest input faultless in
+          let here_numbers = numbers_seen r.n r.s _ _ _ r.ran f rest other_input other_faultless in
+          let my_finish = finish_seen e.n (Recorded e.to.picks) _ _ _ e.to.ran g rest input faultless in
+          let here_finish = finish_seen r.n r.s _ _ _ r.ran f rest other_input other_faultless in
           record {
             finish_is =
                 r.finish_is

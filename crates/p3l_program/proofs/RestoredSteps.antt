@@ -1,14 +1,15 @@
--- What is restored of what was saved of a machine is in the state that the machine was in.
+-- Machines that are restored from a shot are in the state that the machine was in.
 use Rattle.std.proofs.Common.{◌≡◌, ℕ, List, [], ◌∷◌, map, get_or, refl, sym, ap, ap₂}
 use Rattle.std.specs.Option.{option_to_list}
 use Rattle.std.proofs.lemmas.List.{reverse-reverse}
 use Rattle.p3l_firing.specs.declared.net.Chan.{Chan}
 use Rattle.p3l_firing.specs.declared.token.Token.{Token}
 use Rattle.p3l_firing.specs.Lists.{rest_of}
-use Rattle.p3l_firing.specs.State.{Own, State, own_at}
+use Rattle.p3l_firing.specs.State.{LocalState, State, own_at}
+use Rattle.p3l_firing.specs.Shot.{own_of, saved_own, saved_token, token_of}
 use Rattle.p3l_net.specs.Channel.{Queue, tokens_at}
 use Rattle.p3l_net.specs.Machine.{IsShaped, Seen, state_of}
-use Rattle.p3l_net.specs.Shot.{own_of, queue_of, queues_of, restored, saved_own, saved_queue, saved_token, shot_of, token_of}
+use Rattle.p3l_net.specs.Shot.{queue_of, queues_of, restored, saved_queue, shot_of}
 use Rattle.p3l_run.specs.Start.{uncounted}
 
 token_back : (token : Token) → token_of (saved_token token) ≡ token
@@ -18,10 +19,10 @@ tokens_back : (tokens : List Token) → map token_of (map saved_token tokens) �
 tokens_back [] = refl
 tokens_back (token ∷ tokens) = ap₂ (λ x xs. x ∷ xs) (token_back token) (tokens_back tokens)
 
-own_back : (o : Own) → own_of (saved_own o) ≡ o
+own_back : (o : LocalState) → own_of (saved_own o) ≡ o
 own_back o = ap (λ held. record { number = o.number; held = held }) (tokens_back o.held)
 
-owns_back : (owns : List Own) → map own_of (map saved_own owns) ≡ owns
+owns_back : (owns : List LocalState) → map own_of (map saved_own owns) ≡ owns
 owns_back [] = refl
 owns_back (o ∷ owns) = ap₂ (λ x xs. x ∷ xs) (own_back o) (owns_back owns)
 
@@ -40,5 +41,5 @@ queues_back (chan ∷ chans) (queue ∷ queues) fit =
 pub state_back : (m : Seen) → IsShaped m → state_of (restored m.tree m.net (uncounted (shot_of m))) [] ≡ state_of m []
 unfolding restored shot_of state_of
 state_back m shaped =
-    let with : List Queue → List Own → State = λ queues owns. record { tokens = tokens_at queues; own = own_at owns; unsent = option_to_list m.inbox; sent = m.sent; emitted = [] } in
+    let with : List Queue → List LocalState → State = λ queues owns. record { tokens = tokens_at queues; own = own_at owns; unsent = option_to_list m.inbox; sent = m.sent; emitted = [] } in
     ap₂ with (queues_back m.net.chans m.queues shaped.rooms) (owns_back m.owns)

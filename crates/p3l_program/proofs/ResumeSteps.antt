@@ -1,10 +1,10 @@
--- What a snapshot holds that was loaded can be resumed.
+-- Snapshots that are loaded can be resumed.
 use Rattle.std.proofs.Common.{◌≡◌, ℕ, List, [], refl, sym, subst, arith}
 use Rattle.p3l_firing.specs.Typed.{IsTyped}
 use Rattle.p3l_firing.specs.declared.net.Net.{Net}
-use Rattle.p3l_link.specs.Laws.{EveryNetIsCarried, IsLinkable, IsOrderly}
+use Rattle.p3l_link.specs.Laws.{EveryNetHasInvariants, IsLinkable, IsOrderly}
 use Rattle.p3l_link.specs.Net.{linked_net}
-use Rattle.p3l_link.specs.Whole.{root_carry}
+use Rattle.p3l_link.specs.Whole.{root_invariants}
 use Rattle.p3l_load.specs.declared.loaded.Loaded.{Loaded}
 use Rattle.p3l_net.specs.Fitting.{Fitting}
 use Rattle.p3l_fitting.specs.Survey.{linked_loops, linked_widths}
@@ -18,12 +18,12 @@ use Rattle.p3l_run.specs.Start.{Resumption}
 use Rattle.p3l_skel.specs.Numbers.{firings}
 use Rattle.p3l_template.specs.Units.{Units}
 use Rattle.p3l_units.specs.laws.Leaf.{gives_outs}
-use Rattle.p3l_program.specs.declared.snapshot.Snapshot.{Snapshot}
+use Rattle.p3l_program.specs.declared.snapshot.ResumableNetwork.{ResumableNetwork}
 use Rattle.p3l_program.specs.LoadSnapshot.{IsReadySnapshot}
 use Rattle.p3l_program.specs.Plan.{network_in, resumption_of}
 use Rattle.p3l_program.specs.Snapshot.{units_in}
 
-module _ (snapshot : Snapshot) (ready : IsReadySnapshot snapshot) where
+module _ (snapshot : ResumableNetwork) (ready : IsReadySnapshot snapshot) where
   abbrev loaded : Loaded
   loaded = snapshot.network
 
@@ -58,26 +58,26 @@ module _ (snapshot : Snapshot) (ready : IsReadySnapshot snapshot) where
   is_orderly = subst (λ n. IsOrderly units counts (orderly.saved_state loaded.tree n snapshot.shot [])) ready.image.net_is ready.sound.orderly
 
   -- on the net that is linked for the tree
-  resumed_there : EveryNetIsCarried → EveryOrderlyShotGoesOn → EveryResumedRunCanBeCounted → IsResumedBy (network loaded.tree units.leaf linked (firings loaded.tree counts)) snapshot.shot resumption
-  resumed_there carried goes_on counted =
+  resumed_there : EveryNetHasInvariants → EveryOrderlyShotGoesOn → EveryResumedRunCanBeCounted → IsResumedBy (network loaded.tree units.leaf linked (firings loaded.tree counts)) snapshot.shot resumption
+  resumed_there has_invariants goes_on counted =
       let g = goes_on units counts loaded.cap snapshot.shot typed linkable fits is_orderly in record {
         shot_is = refl;
         sound = record {
           typed = typed;
-          carried = (root_carry units counts, carried units counts loaded.cap linkable);
+          has_invariants = (root_invariants units counts, has_invariants units counts loaded.cap linkable);
           begins = record { restores = g.restores; orderly = g.orderly; ahead = g.ahead; owed = g.owed };
         };
         fits = counted units counts loaded.cap snapshot.shot most_of_input typed linkable ready.few_procs ready.few_tokens fits (omega arith);
       }
 
-  -- which is the one that was loaded
-  pub resumed_by : EveryNetIsCarried → EveryOrderlyShotGoesOn → EveryResumedRunCanBeCounted → IsResumedBy (network_in loaded) snapshot.shot resumption
-  resumed_by carried goes_on counted =
-      subst (λ n. IsResumedBy (network loaded.tree units.leaf n (firings loaded.tree counts)) snapshot.shot resumption) (sym ready.image.net_is) (resumed_there carried goes_on counted)
+  -- the network is the one that was loaded
+  pub resumed_by : EveryNetHasInvariants → EveryOrderlyShotGoesOn → EveryResumedRunCanBeCounted → IsResumedBy (network_in loaded) snapshot.shot resumption
+  resumed_by has_invariants goes_on counted =
+      subst (λ n. IsResumedBy (network loaded.tree units.leaf n (firings loaded.tree counts)) snapshot.shot resumption) (sym ready.image.net_is) (resumed_there has_invariants goes_on counted)
 
   -- so is another that is the same
-  pub resumed_by_same : EveryNetIsCarried → EveryOrderlyShotGoesOn → EveryResumedRunCanBeCounted → (n : Network) → n ≡ network_in loaded → IsResumedBy n snapshot.shot resumption
-  resumed_by_same carried goes_on counted n same = subst (λ n. IsResumedBy n snapshot.shot resumption) (sym same) (resumed_by carried goes_on counted)
+  pub resumed_by_same : EveryNetHasInvariants → EveryOrderlyShotGoesOn → EveryResumedRunCanBeCounted → (n : Network) → n ≡ network_in loaded → IsResumedBy n snapshot.shot resumption
+  resumed_by_same has_invariants goes_on counted n same = subst (λ n. IsResumedBy n snapshot.shot resumption) (sym same) (resumed_by has_invariants goes_on counted)
 
-  pub resumable : EveryNetIsCarried → EveryOrderlyShotGoesOn → EveryResumedRunCanBeCounted → (n : Network) → n ≡ network_in loaded → IsResumable n snapshot.shot
-  resumable carried goes_on counted n same = (resumption, resumed_by_same carried goes_on counted n same)
+  pub resumable : EveryNetHasInvariants → EveryOrderlyShotGoesOn → EveryResumedRunCanBeCounted → (n : Network) → n ≡ network_in loaded → IsResumable n snapshot.shot
+  resumable has_invariants goes_on counted n same = (resumption, resumed_by_same has_invariants goes_on counted n same)

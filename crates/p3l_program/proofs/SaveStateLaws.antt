@@ -1,16 +1,16 @@
--- What the answers of `save` depend on.
+-- Premises of the answers of `save`.
 use Rattle.std.proofs.Common.{◌≡◌, ◌≢◌, ℕ, true, false, List, [], ◌++◌, inl, inr, Option, Some, None, refl, sym, ap, subst, ◌∙◌, arith}
 use Rattle.p3l_firing.specs.Token.{has_trap}
 use Rattle.p3l_net.specs.Offered.{Follows}
+use Rattle.p3l_io.specs.Change.{Change, HasRisen, HasSameFaults}
 use Rattle.p3l_opts.specs.declared.command.Build.{Build}
 use Rattle.p3l_report.proofs.Statuses as statuses
 use Rattle.p3l_report.specs.declared.stats.Stats.{Stats}
 use Rattle.p3l_report.specs.declared.verdict.Finish.{Finish}
 use Rattle.p3l_report.specs.declared.verdict.Finish.TheVariants as finish
 use Rattle.p3l_report.specs.Status as status
-use Rattle.p3l_report.specs.Verdict.{ending_status, finish_status}
+use Rattle.p3l_report.specs.Verdict.{finish_status}
 use Rattle.p3l_run.specs.declared.end.RunEnd.TheVariants as end
-use Rattle.p3l_run.specs.Checkpoint.{Reaches}
 use Rattle.p3l_run.specs.Checkpoint as checkpoint
 use Rattle.p3l_run.specs.declared.checkpoint.Checkpoint.{Checkpoint}
 use Rattle.p3l_run.specs.Feed.{closed_so}
@@ -21,15 +21,15 @@ use Rattle.p3l_stream.specs.Given.{GivenCause}
 use Rattle.p3l_stream.specs.Text.{text_of}
 use Rattle.p3l_program.specs.SaveState.{BeginsSave, EndsSave, IsSaveStatus, IsUsed, SavesWhole, save_behavior}
 use Rattle.p3l_program.specs.Trace.{IsUnrefused}
-use Rattle.p3l_program.specs.World.{Change, HasNoFault, HasRisen, World}
-use Rattle.p3l_program.proofs.EndSteps.{put_known}
-use Rattle.p3l_program.proofs.Lawful.{IsCalmStatus, Lawful}
+use Rattle.p3l_program.specs.World.{HasNoFault, World}
+use Rattle.p3l_program.proofs.EndSteps.{ended_same_faults, put_known, unrefused_same_faults}
+use Rattle.p3l_program.proofs.Lawful.{IsFaultlessStatus, Lawful}
 use Rattle.p3l_program.proofs.SaveStateSteps.{begun_so, emitted_on, status_done, status_ended, status_trapped, used_on, used_seen}
 use Rattle.p3l_program.proofs.SeenSteps.{ending_unstopped}
 use Rattle.p3l_program.proofs.TraceSteps.{all_go_on}
 
--- where a run came to its checkpoint the stream was not refused as far as it was requested
-module _ (n : Network) (picks : List ℕ) (input out : Change (List ℕ)) (saved : Checkpoint) (s : checkpoint.IsSaved n picks input.old input.new input.before input.now out.old out.new saved) where
+-- if a run came to its checkpoint, the stream was not refused as far as it was requested
+module _ (n : Network) (picks : List ℕ) (input out : Change (List ℕ)) (saved : Checkpoint) (s : checkpoint.IsSaved n picks input out saved) where
   unrefused_by : (close : Option Ending) → s.reached.close ≡ close → IsUnrefused s.reached.close
   unrefused_by None is = inl is
   unrefused_by (Some e) is = elim s.over [ inl none ↦ absurd ((s.reached.request e is).0 none) | inr ended ↦ inr ended ]
@@ -40,41 +40,27 @@ module _ (n : Network) (picks : List ℕ) (input out : Change (List ℕ)) (saved
   pub left_ended : has_trap s.reached.outcomes ≡ false → s.reached.unused ≢ [] → (e : Ending) × (s.reached.close ≡ Some e)
   left_ended quiet left = elim s.over [ inl none ↦ absurd (left none) | inr ended ↦ (ending.End, ended) ]
 
--- a stream that was not refused did not fail
-unrefused_calm : (close : Option Ending) (before now : ℕ) → IsUnrefused close → GivenCause (closed_so close) before now → now ≡ before
-unrefused_calm close before now (inl none) cause = subst (λ c. GivenCause (closed_so c) before now) none cause
-unrefused_calm close before now (inr end) cause = subst (λ c. GivenCause (closed_so c) before now) end cause
-
--- nor did one that ended so
-ended_calm : (e : Ending) (before now : ℕ) → (ending_status e ≡ status.read → ⊥) → GivenCause (closed_so (Some e)) before now → now ≡ before
-ended_calm ending.End before now other cause = cause
-ended_calm (ending.BadWord line) before now other cause = cause
-ended_calm (ending.WrongCount line had) before now other cause = cause
-ended_calm (ending.OutOfRange line) before now other cause = cause
-ended_calm ending.ReadFault before now other cause = absurd (other refl)
-ended_calm ending.TooLong before now other cause = cause
-
 true_is_not_false : true ≡ false → ⊥
 true_is_not_false h = cc
 
 module _ (w : World) (build : Build) (name output : List ℕ) where
   save_begun : (f : Finish) (report : Option Stats) → EndsSave w build name output f report → BeginsSave w build name
   save_begun finish.Done report e =
-      record { n = e.n; counts = e.counts; image = e.image; picks = e.picks; has = e.has; begun = begun_so e.n e.picks w.input w.out e.to.comes.is.reached e.to.comes.meant }
+      record { n = e.n; counts = e.counts; image = e.image; picks = e.picks; has = e.has; begun = begun_so e.n e.picks w.input w.output e.to.comes.is.reached e.to.comes.meant }
   save_begun (finish.Run (end.Stream k)) report e =
-      record { n = e.n; counts = e.counts; image = e.image; picks = e.picks; has = e.has; begun = begun_so e.n e.picks w.input w.out e.to.0.is.reached e.to.0.meant }
+      record { n = e.n; counts = e.counts; image = e.image; picks = e.picks; has = e.has; begun = begun_so e.n e.picks w.input w.output e.to.0.is.reached e.to.0.meant }
   save_begun (finish.Run (end.Trapped item kind home)) report e =
-      record { n = e.n; counts = e.counts; image = e.image; picks = e.picks; has = e.has; begun = begun_so e.n e.picks w.input w.out e.to.0.is.reached e.to.0.meant }
+      record { n = e.n; counts = e.counts; image = e.image; picks = e.picks; has = e.has; begun = begun_so e.n e.picks w.input w.output e.to.0.is.reached e.to.0.meant }
   save_begun (finish.Run (end.Stopped fired idle)) report e = absurd e.to
   save_begun (finish.Differs line) report e = absurd e.to
 
   -- an end of status 0 is whole
-  save_whole : (rest taken : List ℕ) (f : Finish) (report : Option Stats) → w.input.old ≡ Some rest → w.out.old ≡ Some taken → finish_status f ≡ status.done → EndsSave w build name output f report → SavesWhole w build name output rest taken
+  save_whole : (rest taken : List ℕ) (f : Finish) (report : Option Stats) → w.input.old.content ≡ Some rest → w.output.old.content ≡ Some taken → finish_status f ≡ status.done → EndsSave w build name output f report → SavesWhole w build name output rest taken
   save_whole rest taken finish.Done report input out h e =
       let s = e.to.comes.is in
       let r = s.reached in
-      let all = all_go_on e.n rest w.input.old w.input.new w.input.before w.input.now r.close r.stream r.items r.gives input (unrefused e.n e.picks w.input w.out e.to.saved s) in
-      let emitted = emitted_on e.n e.picks w.input w.out r all.later all.may_come.wide in
+      let all = all_go_on e.n rest w.input r.close r.stream r.items r.gives input (unrefused e.n e.picks w.input w.output e.to.saved s) in
+      let emitted = emitted_on e.n e.picks w.input w.output r all.later all.may_come.wide in
       record {
         n = e.n;
         counts = e.counts;
@@ -85,11 +71,11 @@ module _ (w : World) (build : Build) (name output : List ℕ) where
         unused = r.unused;
         is_used =
             subst (λ items. IsUsed e.n items e.picks r.used r.unused) (sym all.all)
-            (used_on e.n e.picks w.input w.out r e.to.comes.meant (left_ended e.n e.picks w.input w.out e.to.saved s) all.later all.may_come);
-        calm = ap has_trap (ap (λ items. (course_under e.n items r.used).state.emitted) all.all ∙ sym emitted) ∙ s.calm;
+            (used_on e.n e.picks w.input w.output r e.to.comes.meant (left_ended e.n e.picks w.input w.output e.to.saved s) all.later all.may_come);
+        untrapped = ap has_trap (ap (λ items. (course_under e.n items r.used).state.emitted) all.all ∙ sym emitted) ∙ s.untrapped;
         ended = λ left. elim s.over [ inl none ↦ absurd (left none) | inr closed ↦ all.ending_is ending.End closed ];
         taken_is =
-            put_known w.out.old w.out.new taken (text_of r.outcomes) out r.put
+            put_known w.output taken (text_of r.outcomes) out r.put
             ∙ ap (λ o. Some (taken ++ text_of o)) (emitted ∙ ap (λ items. (course_under e.n items r.used).state.emitted) (sym all.all));
         offered = r.items;
         later = all.later;
@@ -109,9 +95,9 @@ module _ (w : World) (build : Build) (name output : List ℕ) where
   save_whole rest taken (finish.Run (end.Stopped fired idle)) report input out h e = absurd e.to
   save_whole rest taken (finish.Differs line) report input out h e = absurd e.to
 
-  -- where no fault comes it ends with the status that is expected
-  save_status_expected : (rest : List ℕ) (f : Finish) (report : Option Stats) → w.input.old ≡ Some rest → HasNoFault w → EndsSave w build name output f report → IsSaveStatus w build name rest (finish_status f)
-  save_status_expected rest finish.Done report input calm e =
+  -- without a fault it ends with the status that is expected
+  save_status_expected : (rest : List ℕ) (f : Finish) (report : Option Stats) → w.input.old.content ≡ Some rest → HasNoFault w → EndsSave w build name output f report → IsSaveStatus w build name rest (finish_status f)
+  save_status_expected rest finish.Done report input faultless e =
       let s = e.to.comes.is in
       let r = s.reached in record {
         n = e.n;
@@ -121,13 +107,13 @@ module _ (w : World) (build : Build) (name output : List ℕ) where
         has = e.has;
         used = r.used;
         unused = r.unused;
-        is_used = used_seen e.n e.picks w.input w.out r rest input calm.input e.to.comes.meant (left_ended e.n e.picks w.input w.out e.to.saved s);
+        is_used = used_seen e.n e.picks w.input w.output r rest input faultless.input e.to.comes.meant (left_ended e.n e.picks w.input w.output e.to.saved s);
         status_is = elim s.over [
-          | inl none ↦ status_done e.n e.picks w.input w.out r rest input calm.input s.calm none
-          | inr ended ↦ status_ended e.n e.picks w.input w.out r rest input calm.input s.calm ending.End ended
+          | inl none ↦ status_done e.n e.picks w.input w.output r rest input faultless.input s.untrapped none
+          | inr ended ↦ status_ended e.n e.picks w.input w.output r rest input faultless.input s.untrapped ending.End ended
         ];
       }
-  save_status_expected rest (finish.Run (end.Stream k)) report input calm e =
+  save_status_expected rest (finish.Run (end.Stream k)) report input faultless e =
       let s = e.to.0.is in
       let r = s.reached in record {
         n = e.n;
@@ -137,10 +123,10 @@ module _ (w : World) (build : Build) (name output : List ℕ) where
         has = e.has;
         used = r.used;
         unused = r.unused;
-        is_used = used_seen e.n e.picks w.input w.out r rest input calm.input e.to.0.meant (λ quiet left. (k, s.close_is));
-        status_is = status_ended e.n e.picks w.input w.out r rest input calm.input s.calm k s.close_is;
+        is_used = used_seen e.n e.picks w.input w.output r rest input faultless.input e.to.0.meant (λ quiet left. (k, s.close_is));
+        status_is = status_ended e.n e.picks w.input w.output r rest input faultless.input s.untrapped k s.close_is;
       }
-  save_status_expected rest (finish.Run (end.Trapped item kind home)) report input calm e =
+  save_status_expected rest (finish.Run (end.Trapped item kind home)) report input faultless e =
       let s = e.to.0.is in
       let r = s.reached in record {
         n = e.n;
@@ -150,32 +136,32 @@ module _ (w : World) (build : Build) (name output : List ℕ) where
         has = e.has;
         used = r.used;
         unused = r.unused;
-        is_used = used_seen e.n e.picks w.input w.out r rest input calm.input e.to.0.meant (λ quiet left. absurd (true_is_not_false (sym s.trapped ∙ quiet)));
-        status_is = status_trapped e.n e.picks w.input w.out r rest input calm.input s.trapped;
+        is_used = used_seen e.n e.picks w.input w.output r rest input faultless.input e.to.0.meant (λ quiet left. absurd (true_is_not_false (sym s.trapped ∙ quiet)));
+        status_is = status_trapped e.n e.picks w.input w.output r rest input faultless.input s.trapped;
       }
-  save_status_expected rest (finish.Run (end.Stopped fired idle)) report input calm e = absurd e.to
-  save_status_expected rest (finish.Differs line) report input calm e = absurd e.to
+  save_status_expected rest (finish.Run (end.Stopped fired idle)) report input faultless e = absurd e.to
+  save_status_expected rest (finish.Differs line) report input faultless e = absurd e.to
 
   -- a fault of reading is answered where the count of the input rose, and else it stays
   save_read : (f : Finish) (report : Option Stats) → EndsSave w build name output f report → finish_status f ≡ status.read → HasRisen w.input
   save_read finish.Done report e h = absurd (omega arith)
   save_read (finish.Run (end.Stream k)) report e h =
       let s = e.to.0.is in
-      subst (λ c. GivenCause (closed_so c) w.input.before w.input.now) (s.close_is ∙ ap Some (statuses.read_is k h)) s.reached.gives.cause
+      subst (λ c. GivenCause (closed_so c) w.input) (s.close_is ∙ ap Some (statuses.read_is k h)) s.reached.gives.cause
   save_read (finish.Run (end.Trapped item kind home)) report e h = absurd (omega arith)
   save_read (finish.Run (end.Stopped fired idle)) report e h = absurd e.to
   save_read (finish.Differs line) report e h = absurd e.to
 
-  save_calm : (f : Finish) (report : Option Stats) → EndsSave w build name output f report → IsCalmStatus (finish_status f) → w.input.now ≡ w.input.before
-  save_calm finish.Done report e h =
+  save_same_faults : (f : Finish) (report : Option Stats) → EndsSave w build name output f report → IsFaultlessStatus (finish_status f) → HasSameFaults w.input
+  save_same_faults finish.Done report e h =
       let s = e.to.comes.is in
-      unrefused_calm s.reached.close w.input.before w.input.now (unrefused e.n e.picks w.input w.out e.to.saved s) s.reached.gives.cause
-  save_calm (finish.Run (end.Stream k)) report e h =
+      unrefused_same_faults s.reached.close w.input (unrefused e.n e.picks w.input w.output e.to.saved s) s.reached.gives.cause
+  save_same_faults (finish.Run (end.Stream k)) report e h =
       let s = e.to.0.is in
-      ended_calm k w.input.before w.input.now h.3 (subst (λ c. GivenCause (closed_so c) w.input.before w.input.now) s.close_is s.reached.gives.cause)
-  save_calm (finish.Run (end.Trapped item kind home)) report e h = absurd (h.2 refl)
-  save_calm (finish.Run (end.Stopped fired idle)) report e h = absurd e.to
-  save_calm (finish.Differs line) report e h = absurd e.to
+      ended_same_faults k w.input h.3 (subst (λ c. GivenCause (closed_so c) w.input) s.close_is s.reached.gives.cause)
+  save_same_faults (finish.Run (end.Trapped item kind home)) report e h = absurd (h.2 refl)
+  save_same_faults (finish.Run (end.Stopped fired idle)) report e h = absurd e.to
+  save_same_faults (finish.Differs line) report e h = absurd e.to
 
   -- it is never stopped
   save_unstopped : (f : Finish) (report : Option Stats) → EndsSave w build name output f report → finish_status f ≡ status.stopped → ⊥
@@ -189,9 +175,9 @@ pub save_lawful : (build : Build) (name output : List ℕ) → Lawful (save_beha
 save_lawful build name output = record {
   begun = λ w f report e. save_begun w build name output f report e;
   whole = λ w rest taken f report input out h e. save_whole w build name output rest taken f report input out h e;
-  status_expected = λ w rest f report input calm e. save_status_expected w build name output rest f report input calm e;
+  status_expected = λ w rest f report input faultless e. save_status_expected w build name output rest f report input faultless e;
   read = λ w f report e h. save_read w build name output f report e h;
-  calm = λ w f report e h. save_calm w build name output f report e h;
+  same_faults = λ w f report e h. save_same_faults w build name output f report e h;
   stopped = λ w f report e h. absurd (save_unstopped w build name output f report e h);
   writer = λ w h. record { name = output; one = inl refl; failed = h.2 };
   first_written = λ none. refl;

@@ -4,8 +4,9 @@ use Rattle.p3l_base.specs.declared.outcome.Outcome.{Outcome}
 use Rattle.p3l_check.specs.Resolving.{ResolvedTree}
 use Rattle.p3l_compile.specs.Leaves.{body_leaf}
 use Rattle.p3l_firing.specs.declared.net.Net.{Net}
+use Rattle.p3l_io.specs.Change.{Change, HasSameFaults, change}
 use Rattle.p3l_io.specs.Content.{Held}
-use Rattle.p3l_link.specs.Laws.{EveryNetIsCarried}
+use Rattle.p3l_link.specs.Laws.{EveryNetHasInvariants}
 use Rattle.p3l_link.specs.Net.{linked_net}
 use Rattle.p3l_firing.specs.Typed.{IsTyped}
 use Rattle.p3l_report.specs.declared.verdict.Refusal.TheVariants as refusal
@@ -33,7 +34,6 @@ use Rattle.p3l_program.specs.Origin.{scanned}
 use Rattle.p3l_program.specs.Plan.{ComesTo, IsScanned, scan_network}
 use Rattle.p3l_program.specs.Scan.{IsPlanned, IsReadyScan}
 use Rattle.p3l_program.specs.Stage.{AllPass, program_stages, scan_stages, scannable}
-use Rattle.p3l_program.specs.World.{Change, IsCalm}
 use Rattle.p3l_program.proofs.LoadSteps.{program_passes}
 use Rattle.p3l_program.proofs.SoundSteps.{sound}
 use Rattle.p3l_program.proofs.StageSteps.{passed_both, refused_after}
@@ -71,24 +71,24 @@ module _ (r : ResolvedTree) (lawful : IsLawfulTree r.tree) (segments capacity : 
 
 module _ (name : List ℕ) (segments : ℕ) (r : ResolvedTree) where
   -- a program that can't be scanned stops the stages of a scan at their last
-  pub not_scanned : (files : Change Held) (program : Accepted) (text : List ℕ) → HasText files.old text_limit name text → ComesTo text r program → (why : ScanRefusal) →
-      IsUnscannable program.tree segments why → IsCalm files → IsNotLoaded files (scan_stages name segments) (verdict.Refused (refusal.Scan why))
-  not_scanned files program text has comes why refuses calm =
+  pub not_scanned : (files : Change Held) (program : Accepted) (text : List ℕ) → HasText files.old.content text_limit name text → ComesTo text r program → (why : ScanRefusal) →
+      IsUnscannable program.tree segments why → HasSameFaults files → IsNotLoaded files (scan_stages name segments) (verdict.Refused (refusal.Scan why))
+  not_scanned files program text has comes why refuses same_faults =
       let here : IsUnscannable r.tree segments why = subst (λ t. IsUnscannable t segments why) comes.compiled.tree_is refuses in (
         refused_after files (program_stages name) (scannable name segments ∷ []) (refusal.Scan why) (program_passes files name r program text has comes)
             (inl (record { text = text; has = has; refused = record { r = r; accepted = comes.accepted; only = comes.only; refused = here } })),
-        calm,
+        same_faults,
       )
 
   module _ (capacity : ℕ) (loaded : Planned) where
-    scan_passes : (files : Change Held) → IsPlanned files.old name segments r loaded → AllPass files (scan_stages name segments)
+    scan_passes : (files : Change Held) → IsPlanned files.old.content name segments r loaded → AllPass files (scan_stages name segments)
     scan_passes files is =
         let program = is.program in
         passed_both files (program_stages name) (scannable name segments ∷ []) (program_passes files name r loaded.program program.text program.has program.comes)
         ((r, record { has = record { text = program.text; has = program.has; accepted = program.comes.accepted }; can = is.planned.can }), tt)
 
     module _ (files : Option Held) (is : IsPlanned files name segments r loaded) where
-      -- what was loaded can be run
+      -- a loaded scan can be run
       pub scan_ready : IsReadyScan loaded
       scan_ready = record {
         r = r;
@@ -120,10 +120,10 @@ module _ (plan : ScanPlan) (runs : IsRunnable plan) (capacity : ℕ) (room : 1 �
   abbrev steps : ℕ → List ℤ → Outcome
   steps = step_leaf units.elem (item units.inner.tree (leaf units.inner) units.op)
 
-  pub scan_sound : EveryNetIsCarried → IsTyped plan.tree net → IsSound (network plan.tree steps net (firings plan.tree plan.counts.list))
-  scan_sound carried typed =
+  pub scan_sound : EveryNetHasInvariants → IsTyped plan.tree net → IsSound (network plan.tree steps net (firings plan.tree plan.counts.list))
+  scan_sound has_invariants typed =
       let gives : GivesOuts plan.tree steps = subst (λ t. GivesOuts t steps) tree_is (gives_outs units.levels units.words units.elem (item units.inner.tree (leaf units.inner) units.op)) in
-      sound carried plan.tree steps plan.counts.list capacity net (firings plan.tree plan.counts.list) runs.tree runs.counts room gives linked typed refl
+      sound has_invariants plan.tree steps plan.counts.list capacity net (firings plan.tree plan.counts.list) runs.tree runs.counts room gives linked typed refl
 
   pub units_network : (r : ResolvedTree) (tree : Tree) (table : Served) → tree ≡ r.tree → table.tree ≡ tree → leaf table ≡ body_leaf tree r.seqs → units.elem ≡ plan.elem → units.op ≡ plan.op → units.inner ≡ table →
       network_named tree plan.tree steps net (firings plan.tree plan.counts.list) ≡ scan_network r plan capacity

@@ -1,11 +1,11 @@
--- What is seen of an input where no fault comes, and the status of a run on it.
+-- The part of an input that is seen without a fault, and the status of a run on it.
 use Rattle.std.proofs.Common.{◌≡◌, ℕ, zero, suc, ℤ, ◌+◌, ◌-◌, ◌<◌, ◌≤◌, Bool, true, false, cond, List, [], ◌++◌, length, take, Option, Some, None, refl, sym, ap, subst, ◌∙◌, arith, append-nil, length-append, if◌then◌else◌, ◌∷◌}
 use Rattle.std.specs.List.{AllByRecursion}
 use Rattle.std.proofs.Math.Seq.{take-append-add}
 use Rattle.std.proofs.lemmas.Bool.{le-leb, lt-leb}
 use Rattle.std.proofs.lemmas.List.{take_all}
 use Rattle.std.proofs.lemmas.List.Elements.{recursion_from_All}
-use Rattle.p3l_io.specs.Causes.{Rose}
+use Rattle.p3l_io.specs.Change.{Becomes, Change, HasRisen}
 use Rattle.p3l_run.specs.declared.end.RunEnd.{RunEnd}
 use Rattle.p3l_run.specs.declared.end.RunEnd.TheVariants as finish
 use Rattle.p3l_report.specs.Status as status
@@ -27,15 +27,16 @@ use Rattle.p3l_stream.specs.declared.items.Items.{Items}
 use Rattle.p3l_stream.specs.declared.taken.Cutoff.TheVariants as stop
 use Rattle.p3l_stream.proofs.Endings.{items_wide}
 use Rattle.p3l_stream.specs.Answers.{IsAtEnd}
+use Rattle.p3l_stream.specs.Taken.{IsTaken}
 use Rattle.p3l_stream.specs.Given.{Closes, GivenCause, HasGiven, TakesOn, ended_by}
-use Rattle.p3l_stream.specs.declared.line.Line.{Line}
-use Rattle.p3l_stream.specs.declared.line.Line.TheVariants as line
+use Rattle.p3l_stream.specs.declared.line.LineContent.{LineContent}
+use Rattle.p3l_stream.specs.declared.line.LineContent.TheVariants as line
 use Rattle.p3l_stream.specs.Lines.{line_of, lines_of}
 use Rattle.p3l_stream.specs.Items.{items_of, items_of_lines, items_taken, put_line}
 use Rattle.p3l_stream.specs.Seen.{Seen}
 use Rattle.p3l_program.specs.Run.{run_status, seen_of, status_with, stop_of}
 
--- what is seen of an input goes on from these items to this ending, as the stream may
+-- the items seen of an input continue from these items to this ending, as the stream may
 pub record GoesOnTo (n : Network) (close : Option Ending) (items : List (List ℤ)) (rest : List ℕ) : Type 0 where
   pub later : List (List ℤ)
   pub e : Ending
@@ -43,7 +44,7 @@ pub record GoesOnTo (n : Network) (close : Option Ending) (items : List (List �
   pub may_end : MayEnd close e
   pub seen : seen_of (width_of n) rest ≡ ended_by (items ++ later) e
 
--- how an input of at least, or of fewer bytes than the limit stops
+-- the cutoff of an input of at least, or of fewer bytes than the limit
 stops_far : (rest : List ℕ) → input_limit ≤ length rest → stop_of rest ≡ stop.Limit
 stops_far rest far = ap (λ b. if b then stop.Limit else stop.End) (le-leb _ _ far)
 
@@ -81,7 +82,7 @@ module _ (n : Network) (rest : List ℕ) (s : Seen) (items : List (List ℤ)) (b
       let b = given.below end in
       (stops_near rest (omega arith), ap (take (input_limit - length bytes)) none ∙ take_none (input_limit - length bytes))
 
-  -- what is seen, by what holds whatever follows the bytes taken
+  -- a statement on the items seen, if it holds whatever follows the bytes taken
   seen_by : (P : Items → Type 0) → TakesOn s.at_end (λ how later. P (items_taken (width_of n) how (bytes ++ later))) → P (seen_of (width_of n) rest)
   seen_by P on = subst (λ t. P (items_taken (width_of n) (stop_of rest) t)) (sym front) (on (stop_of rest) more at_the_end)
 
@@ -95,8 +96,8 @@ module _ (n : Network) (rest : List ℕ) (s : Seen) (items : List (List ℤ)) (b
     seen = seen_by (λ i. i ≡ ended_by items e) on ∙ ap (λ i. ended_by i e) (sym (append-nil items));
   }
 
-  goes_on_to : (close : Option Ending) (before now : ℕ) → s.closed ≡ closed_so close → GivenCause (closed_so close) before now → (Rose before now → ⊥) → GoesOnTo n close items rest
-  goes_on_to None before now closed cause calm = by (subst (λ c. Closes (width_of n) s bytes items c) closed given.closes)
+  goes_on_to : (close : Option Ending) (input : Change (List ℕ)) → s.closed ≡ closed_so close → GivenCause (closed_so close) input → (HasRisen input → ⊥) → GoesOnTo n close items rest
+  goes_on_to None input closed cause faultless = by (subst (λ c. Closes (width_of n) s bytes items c) closed given.closes)
     where
       by : Closes (width_of n) s bytes items None → GoesOnTo n None items rest
       by on =
@@ -113,7 +114,7 @@ module _ (n : Network) (rest : List ℕ) (s : Seen) (items : List (List ℤ)) (b
             may_end = tt;
             seen = all;
           }
-  goes_on_to (Some ending.End) before now closed cause calm = by (subst (λ c. Closes (width_of n) s bytes items c) closed given.closes)
+  goes_on_to (Some ending.End) input closed cause faultless = by (subst (λ c. Closes (width_of n) s bytes items c) closed given.closes)
     where
       by : Closes (width_of n) s bytes items (closed_so (Some ending.End)) → GoesOnTo n (Some ending.End) items rest
       by h =
@@ -126,11 +127,11 @@ module _ (n : Network) (rest : List ℕ) (s : Seen) (items : List (List ℤ)) (b
             may_end = refl;
             seen = ap (λ h. items_taken (width_of n) h (take input_limit rest)) end.0 ∙ ap (items_taken (width_of n) stop.End) (front ∙ same) ∙ h.1 ∙ ap (λ i. ended_by i ending.End) (sym (append-nil items));
           }
-  goes_on_to (Some (ending.BadWord line)) before now closed cause calm = refused_line (ending.BadWord line) (subst (λ c. Closes (width_of n) s bytes items c) closed given.closes)
-  goes_on_to (Some (ending.WrongCount line had)) before now closed cause calm = refused_line (ending.WrongCount line had) (subst (λ c. Closes (width_of n) s bytes items c) closed given.closes)
-  goes_on_to (Some (ending.OutOfRange line)) before now closed cause calm = refused_line (ending.OutOfRange line) (subst (λ c. Closes (width_of n) s bytes items c) closed given.closes)
-  goes_on_to (Some ending.ReadFault) before now closed cause calm = absurd (calm cause)
-  goes_on_to (Some ending.TooLong) before now closed cause calm = by (subst (λ c. Closes (width_of n) s bytes items c) closed given.closes)
+  goes_on_to (Some (ending.BadWord line)) input closed cause faultless = refused_line (ending.BadWord line) (subst (λ c. Closes (width_of n) s bytes items c) closed given.closes)
+  goes_on_to (Some (ending.WrongCount line had)) input closed cause faultless = refused_line (ending.WrongCount line had) (subst (λ c. Closes (width_of n) s bytes items c) closed given.closes)
+  goes_on_to (Some (ending.OutOfRange line)) input closed cause faultless = refused_line (ending.OutOfRange line) (subst (λ c. Closes (width_of n) s bytes items c) closed given.closes)
+  goes_on_to (Some ending.ReadFault) input closed cause faultless = absurd (faultless cause)
+  goes_on_to (Some ending.TooLong) input closed cause faultless = by (subst (λ c. Closes (width_of n) s bytes items c) closed given.closes)
     where
       by : Closes (width_of n) s bytes items (closed_so (Some ending.TooLong)) → GoesOnTo n (Some ending.TooLong) items rest
       by h =
@@ -149,23 +150,26 @@ module _ (n : Network) (rest : List ℕ) (s : Seen) (items : List (List ℤ)) (b
                 ∙ ap (λ i. ended_by i ending.TooLong) (sym (append-nil items));
           }
 
+-- the bytes that are left of an input that reports them, behind those that were taken
+pub taken_known : (input : Change (List ℕ)) (rest bytes : List ℕ) → input.old.content ≡ Some rest → IsTaken input bytes → (left : List ℕ) × (input.new.content ≡ Some left) × (rest ≡ bytes ++ left)
+taken_known input rest bytes known taken = subst (λ old. Becomes (λ rest new. (left : List ℕ) × (new ≡ Some left) × (rest ≡ bytes ++ left)) old input.new.content) known taken
+
 pub at_end_left : (rest : Option (List ℕ)) (left : List ℕ) → rest ≡ Some left → IsAtEnd rest → left ≡ []
 at_end_left None left known h = absurd cc
 at_end_left (Some other) left known h = let same : other ≡ left = cc in sym same ∙ h
 
--- what is seen of an input that reports what is left, where no fault came, goes on from the items that its stream gave
-pub seen_goes_on : (n : Network) (rest : List ℕ) (old new : Option (List ℕ)) (before now : ℕ) (close : Option Ending) (s : Seen) (items : List (List ℤ)) → Gives (width_of n) old new before now s items (closed_so close) →
-    old ≡ Some rest → (Rose before now → ⊥) → GoesOnTo n close items rest
-seen_goes_on n rest None new before now close s items g known calm = absurd cc
-seen_goes_on n rest (Some other) new before now close s items g known calm =
-    let same : other ≡ rest = cc in
-    goes_on_to n rest s items g.bytes g.read.0 g.given g.limit (sym same ∙ g.read.2) (λ h. at_end_left new g.read.0 g.read.1 (g.at_end h)) close before now g.closed_is g.cause calm
+-- the items seen of an input that reports its content, without a fault, continue from the items that its stream gave
+pub seen_goes_on : (n : Network) (rest : List ℕ) (input : Change (List ℕ)) (close : Option Ending) (s : Seen) (items : List (List ℤ)) → Gives (width_of n) input s items (closed_so close) →
+    input.old.content ≡ Some rest → (HasRisen input → ⊥) → GoesOnTo n close items rest
+seen_goes_on n rest input close s items g known faultless =
+    let read = taken_known input rest g.bytes known g.read in
+    goes_on_to n rest s items g.bytes read.0 g.given g.limit read.2 (λ h. at_end_left input.new.content read.0 read.1 (g.at_end h)) close input g.closed_is g.cause faultless
 
 -- so the status of a run on an input that reports what is left, where no fault came, is that of what is seen
-pub seen_status : (n : Network) (s : Schedule) (rest : List ℕ) (keeping : Keeping) (old new : Option (List ℕ)) (before now : ℕ) (taken taken' : Option (List ℕ)) (end : Ran) →
-    old ≡ Some rest → (Rose before now → ⊥) → Finishes n s keeping old new before now taken taken' end → end_status end.finish ≡ run_status n s rest
-seen_status n s rest keeping old new before now taken taken' end known calm f =
-    let to = seen_goes_on n rest old new before now f.close f.stream f.items f.gives known calm in
+pub seen_status : (n : Network) (s : Schedule) (rest : List ℕ) (keeping : Keeping) (input out : Change (List ℕ)) (end : Ran) →
+    input.old.content ≡ Some rest → (HasRisen input → ⊥) → Finishes n s keeping input out end → end_status end.finish ≡ run_status n s rest
+seen_status n s rest keeping input out end known faultless f =
+    let to = seen_goes_on n rest input f.close f.stream f.items f.gives known faultless in
     ap (λ e. end_status e) (f.ends to.later to.may_come to.e to.may_end) ∙ ap (status_with n s) (sym to.seen)
 
 -- no ending of a stream is a stop
@@ -177,7 +181,7 @@ ending_unstopped (ending.OutOfRange line) h = absurd (omega arith)
 ending_unstopped ending.ReadFault h = absurd (omega arith)
 ending_unstopped ending.TooLong h = absurd (omega arith)
 
--- where a run is stopped some process can fire
+-- if a run is stopped, some process can fire
 pub stopped_goes : (n : Network) (c : Course) (close : Ending) (f : RunEnd) → f ≡ finish_of n c close → end_status f ≡ status.stopped → goes_on n c ≡ true
 stopped_goes n c close f is h = by (goes_on n c) (trap_of c.state.emitted) refl (sym (ap (λ k. end_status k) is) ∙ h)
   where
@@ -187,11 +191,11 @@ stopped_goes n c close f is h = by (goes_on n c) (trap_of c.state.emitted) refl 
     by false (Some t) goes k = absurd (omega arith)
 
 -- and it is stopped only where its schedule is that of a file, of which all picks were made
-pub seen_stops : (n : Network) (s : Schedule) (rest : List ℕ) (keeping : Keeping) (old new : Option (List ℕ)) (before now : ℕ) (taken taken' : Option (List ℕ)) (end : Ran) →
-    old ≡ Some rest → (Rose before now → ⊥) → Finishes n s keeping old new before now taken taken' end → end_status end.finish ≡ status.stopped →
+pub seen_stops : (n : Network) (s : Schedule) (rest : List ℕ) (keeping : Keeping) (input out : Change (List ℕ)) (end : Ran) →
+    input.old.content ≡ Some rest → (HasRisen input → ⊥) → Finishes n s keeping input out end → end_status end.finish ≡ status.stopped →
     s ≡ schedule.Recorded (picks_of n s (seen_of (width_of n) rest).items)
-seen_stops n s rest keeping old new before now taken taken' end known calm f h =
-    let to = seen_goes_on n rest old new before now f.close f.stream f.items f.gives known calm in
+seen_stops n s rest keeping input out end known faultless f h =
+    let to = seen_goes_on n rest input f.close f.stream f.items f.gives known faultless in
     let goes = stopped_goes n (course_of n s (f.items ++ to.later)) to.e end.finish (f.ends to.later to.may_come to.e to.may_end) h in
     subst (λ (i : Items). s ≡ schedule.Recorded (picks_of n s i.items)) (sym to.seen) ((f.ran to.later to.may_come).stops goes)
 
@@ -200,7 +204,7 @@ pub seen_short : (width : ℕ) (rest : List ℕ) → length rest < input_limit �
 seen_short width rest near = ap (λ how. items_taken width how (take input_limit rest)) (stops_near rest near) ∙ ap (items_taken width stop.End) (take_all input_limit rest (omega arith))
 
 -- and they don't end with a fault of reading
-line_ends : (l : Line) (number : ℕ) (rest : Items) → (rest.ending ≡ ending.ReadFault → ⊥) → (put_line l number rest).ending ≡ ending.ReadFault → ⊥
+line_ends : (l : LineContent) (number : ℕ) (rest : Items) → (rest.ending ≡ ending.ReadFault → ⊥) → (put_line l number rest).ending ≡ ending.ReadFault → ⊥
 line_ends line.Blank number rest h = h
 line_ends (line.Item words) number rest h = h
 line_ends line.BadWord number rest h = λ e. absurd cc
@@ -214,7 +218,7 @@ lines_end width number (bytes ∷ lines) = line_ends (line_of width bytes) numbe
 pub text_ends : (width : ℕ) (text : List ℕ) → (items_of width text).ending ≡ ending.ReadFault → ⊥
 text_ends width text = lines_end width 1 (lines_of stop.End text)
 
--- where a run ends as its stream does no process can fire
+-- if a run ends as its stream does, no process can fire
 pub still_of : (n : Network) (c : Course) (e close : Ending) (f : RunEnd) → f ≡ finish.Stream close → f ≡ finish_of n c e → goes_on n c ≡ false
 still_of n c e close f stream is = by (goes_on n c) refl
   where

@@ -2,15 +2,14 @@
 use Rattle.std.proofs.Common.{◌≡◌, ℕ, List, [], ◌∷◌, ◌++◌, Option, Some, None, refl, sym, ap, subst, inl, inr, ◌∙◌, codes, get_or, arith}
 use Rattle.std.specs.declared.result.Result.{Result}
 use Rattle.std.specs.declared.result.Result.TheVariants.{Ok, Err}
-use Rattle.p3l_io.specs.Causes.{Rose}
+use Rattle.p3l_io.specs.Change.{Change, Observation, Rose, change}
 use Rattle.p3l_io.specs.Content.{Held}
 use Rattle.p3l_report.specs.declared.verdict.Verdict.{Verdict}
 use Rattle.p3l_report.specs.declared.verdict.Verdict.TheVariants as verdict
 use Rattle.p3l_program.specs.Saved.{AreSaved, HasSave, HasSaves, HoldsBut, IsOther, IsSaved, KeepsBut, SaveCause, SavesCause, Stands, names_of}
-use Rattle.p3l_program.specs.World.{Change}
 
 -- files that keep others hold what they held under them
-kept_holds : (files : Change Held) (names : List (List ℕ)) → KeepsBut files names → (held : Held) → files.old ≡ Some held → HoldsBut held files.new names
+kept_holds : (files : Change Held) (names : List (List ℕ)) → KeepsBut files names → (held : Held) → files.old.content ≡ Some held → HoldsBut held files.new.content names
 kept_holds files [] kept held known = subst (λ f. HoldsBut held f []) (sym (kept ∙ known)) (λ other out. refl)
 kept_holds files (name ∷ names) kept held known = kept held known
 
@@ -30,20 +29,20 @@ stands_then None new name bytes names one more other = absurd one
 stands_then (Some h) None name bytes names one more other = absurd (more h refl)
 stands_then (Some h) (Some k) name bytes names one more other = more h refl name other ∙ one
 
-module _ (old mid new : Option Held) (before between now : ℕ) (early late : Option (List ℕ)) where
+module _ (old mid new : Observation Held) where
   abbrev first : Change Held
-  first = record { old = old; new = mid; before = before; now = between; failed = early }
+  first = change old mid
 
   abbrev second : Change Held
-  second = record { old = mid; new = new; before = between; now = now; failed = late }
+  second = change mid new
 
   abbrev both : Change Held
-  both = record { old = old; new = new; before = before; now = now; failed = late }
+  both = change old new
 
   saved_after : (written name bytes : List ℕ) → KeepsBut first (written ∷ []) → IsSaved second name bytes → IsSaved both name bytes
-  saved_after written name bytes kept saved = λ held known. by held mid refl (kept held known)
+  saved_after written name bytes kept saved = λ held known. by held mid.content refl (kept held known)
     where
-      by : (held : Held) (m : Option Held) → mid ≡ m → HoldsBut held m (written ∷ []) → Stands new name bytes
+      by : (held : Held) (m : Option Held) → mid.content ≡ m → HoldsBut held m (written ∷ []) → Stands new.content name bytes
       by held None is k = absurd k
       by held (Some h) is k = saved h is
 
@@ -53,16 +52,16 @@ module _ (old mid new : Option Held) (before between now : ℕ) (early late : Op
 
   module _ (name bytes : List ℕ) (saves : List (List ℕ × List ℕ)) (other : IsOther name (names_of saves)) (one : HasSave first name bytes (Ok tt)) where
     kept_then : KeepsBut second (names_of saves) → KeepsBut both (name ∷ names_of saves)
-    kept_then kept = λ held known. holds_then held mid new name (names_of saves) (one.kept held known) (kept_holds second (names_of saves) kept)
+    kept_then kept = λ held known. holds_then held mid.content new.content name (names_of saves) (one.kept held known) (kept_holds second (names_of saves) kept)
 
     cause_then : (result : Result (Unit {0}) Verdict) → KeepsBut second (names_of saves) → SavesCause second saves result → SavesCause both ((name, bytes) ∷ saves) result
     cause_then (Ok done) kept by = (
-      (λ held known. stands_then mid new name bytes (names_of saves) (one.by.0 held known) (kept_holds second (names_of saves) kept) other, all_after name saves one.kept by.0),
+      (λ held known. stands_then mid.content new.content name bytes (names_of saves) (one.by.0 held known) (kept_holds second (names_of saves) kept) other, all_after name saves one.kept by.0),
       by.1 ∙ one.by.1,
     )
     cause_then (Err verdict.WriteFault) kept by = (
       λ none. absurd cc,
-      record { name = by.1.name; one = inr by.1.one; failed = (subst (λ n. Rose n now) one.by.1 by.1.failed.0, by.1.failed.1) },
+      record { name = by.1.name; one = inr by.1.one; failed = (subst (λ n. Rose n new.faults) one.by.1 by.1.failed.0, by.1.failed.1) },
     )
     cause_then (Err verdict.NoMemory) kept by = by ∙ one.by.1
     cause_then (Err (verdict.Refused r)) kept by = absurd by
@@ -80,7 +79,7 @@ module _ (files : Change Held) (name bytes : List ℕ) (saves : List (List ℕ �
   cause_of (verdict.Ended f stats) h = absurd h
 
   pub saves_failed : (v : Verdict) → HasSave files name bytes (Err v) → HasSaves files ((name, bytes) ∷ saves) (Err v)
-  saves_failed v h = record { kept = λ held known. holds_wider held files.new name (names_of saves) (h.kept held known); by = cause_of v h.by }
+  saves_failed v h = record { kept = λ held known. holds_wider held files.new.content name (names_of saves) (h.kept held known); by = cause_of v h.by }
 
 -- the last, whether it was written or not
 last_cause : (files : Change Held) (name bytes : List ℕ) (result : Result (Unit {0}) Verdict) → SaveCause files name bytes result → SavesCause files ((name, bytes) ∷ []) result

@@ -3,6 +3,7 @@ use Rattle.std.proofs.Common.{◌≡◌, ℕ, ◌≤◌, List, Option, None, sym
 use Rattle.std.specs.declared.result.Result.TheVariants.{Ok, Err}
 use Rattle.p3l_format.specs.Format.{read_all}
 use Rattle.p3l_image.specs.declared.image.Image.{Image}
+use Rattle.p3l_io.specs.Change.{Change, HasSameFaults, change}
 use Rattle.p3l_io.specs.Content.{Held}
 use Rattle.p3l_load.specs.declared.loaded.Loaded.{Loaded}
 use Rattle.p3l_load.specs.Load.{loaded_of}
@@ -18,7 +19,7 @@ use Rattle.p3l_resume.specs.Refusal.{Answers}
 use Rattle.p3l_resume.specs.Saved.{IsSpelling, saved_format}
 use Rattle.p3l_run.specs.Network.{Network}
 use Rattle.p3l_skel.specs.Numbers.{procs}
-use Rattle.p3l_program.specs.declared.snapshot.Snapshot.{Snapshot}
+use Rattle.p3l_program.specs.declared.snapshot.ResumableNetwork.{ResumableNetwork}
 use Rattle.p3l_program.specs.File.{HasText}
 use Rattle.p3l_program.specs.Image.{IsImage, IsRunnableImage}
 use Rattle.p3l_program.specs.Load.{IsNotLoaded, LoadsNetwork}
@@ -28,7 +29,6 @@ use Rattle.p3l_program.specs.Origin.{continued}
 use Rattle.p3l_program.specs.Plan.{IsContinued, Texts, continued_network}
 use Rattle.p3l_program.specs.Snapshot.{HasSnapshot, IsResumable, IsSoundFor, IsUnsound, SpellsBrokenImage, SpellsNoImage, SpellsWith, snapshot_limit}
 use Rattle.p3l_program.specs.Stage.{AllPass, snapshot_stages}
-use Rattle.p3l_program.specs.World.{Change, IsCalm}
 use Rattle.p3l_program.proofs.ImageSteps.{ready}
 
 -- bytes spell one snapshot
@@ -36,24 +36,24 @@ pub same_saved : (bytes : List ℕ) (saved : Saved) → ((other : Saved) → IsS
 same_saved bytes saved only other is = let z = only other is in cc
 
 -- bytes that are refused stop the stages of a snapshot at their second
-pub unread : (files : Change Held) (name bytes : List ℕ) (why : ShotRefusal) → HasText files.old snapshot_limit name bytes → ((saved : Saved) → IsSpelling saved bytes → Answers bytes (Err why) (Ok saved)) →
-    Answers bytes (Err why) (read_all saved_format bytes) → IsCalm files → IsNotLoaded files (snapshot_stages name) (verdict_of (refusal.Evidence (evidence.Shot why)))
-unread files name bytes shots.NoMemory has only exact calm = calm
-unread files name bytes (shots.BadShot place) has only exact calm =
-    (inr ((bytes, has), inl (record { bytes = bytes; has = has; are = record { misread = sym exact; never = λ saved is. let z = only saved is in absurd cc } })), calm)
+pub unread : (files : Change Held) (name bytes : List ℕ) (why : ShotRefusal) → HasText files.old.content snapshot_limit name bytes → ((saved : Saved) → IsSpelling saved bytes → Answers bytes (Err why) (Ok saved)) →
+    Answers bytes (Err why) (read_all saved_format bytes) → HasSameFaults files → IsNotLoaded files (snapshot_stages name) (verdict_of (refusal.Evidence (evidence.Shot why)))
+unread files name bytes shots.NoMemory has only exact same_faults = same_faults
+unread files name bytes (shots.BadShot place) has only exact same_faults =
+    (inr ((bytes, has), inl (record { bytes = bytes; has = has; are = record { misread = sym exact; never = λ saved is. let z = only saved is in absurd cc } })), same_faults)
 
 -- a snapshot that was read
-module _ (name : List ℕ) (saved : Saved) (files : Change Held) (reads : ReadsSnapshot files.old name saved) where
-  has_such : (AreSuch : List ℕ → Type 0) → AreSuch reads.bytes → HasSnapshot files.old name AreSuch
+module _ (name : List ℕ) (saved : Saved) (files : Change Held) (reads : ReadsSnapshot files.old.content name saved) where
+  has_such : (AreSuch : List ℕ → Type 0) → AreSuch reads.bytes → HasSnapshot files.old.content name AreSuch
   has_such AreSuch are = record { bytes = reads.bytes; has = reads.has; are = are }
 
-  has_spelled : HasSnapshot files.old name (IsSpelling saved)
+  has_spelled : HasSnapshot files.old.content name (IsSpelling saved)
   has_spelled = has_such (IsSpelling saved) reads.spelled
 
-  has_image : (i : Image) → IsImage i saved.image → HasSnapshot files.old name (SpellsWith (IsImage i))
+  has_image : (i : Image) → IsImage i saved.image → HasSnapshot files.old.content name (SpellsWith (IsImage i))
   has_image i is = has_such (SpellsWith (IsImage i)) (record { saved = saved; spelled = reads.spelled; are = is })
 
-  has_runnable : (i : Image) → IsRunnableImage i saved.image → HasSnapshot files.old name (SpellsWith (IsRunnableImage i))
+  has_runnable : (i : Image) → IsRunnableImage i saved.image → HasSnapshot files.old.content name (SpellsWith (IsRunnableImage i))
   has_runnable i runs = has_such (SpellsWith (IsRunnableImage i)) (record { saved = saved; spelled = reads.spelled; are = runs })
 
   -- all stages of one that can be resumed pass
@@ -62,8 +62,8 @@ module _ (name : List ℕ) (saved : Saved) (files : Change Held) (reads : ReadsS
       ((reads.bytes, reads.has), ((saved, has_spelled), ((i, has_image i resumes.runs.is), ((i, has_runnable i resumes.runs), ((i, saved, has_such (IsResumable i saved) resumes), tt)))))
 
   -- it stops the stages at its image, where that doesn't load
-  pub not_loaded_with : IsCalm files → (v : Verdict) → IsUnloadable saved.image v → IsNotLoaded files (snapshot_stages name) v
-  not_loaded_with calm (verdict.Refused (refusal.Evidence (evidence.Image why))) none = (
+  pub not_loaded_with : HasSameFaults files → (v : Verdict) → IsUnloadable saved.image v → IsNotLoaded files (snapshot_stages name) v
+  not_loaded_with same_faults (verdict.Refused (refusal.Evidence (evidence.Image why))) none = (
     inr (
       (reads.bytes, reads.has),
       inr (
@@ -74,9 +74,9 @@ module _ (name : List ℕ) (saved : Saved) (files : Change Held) (reads : ReadsS
         })),
       ),
     ),
-    calm,
+    same_faults,
   )
-  not_loaded_with calm (verdict.Refused (refusal.Evidence (evidence.Load why))) broken = (
+  not_loaded_with same_faults (verdict.Refused (refusal.Evidence (evidence.Load why))) broken = (
     inr (
       (reads.bytes, reads.has),
       inr (
@@ -90,10 +90,10 @@ module _ (name : List ℕ) (saved : Saved) (files : Change Held) (reads : ReadsS
         ),
       ),
     ),
-    calm,
+    same_faults,
   )
-  not_loaded_with calm verdict.NoMemory h = calm
-  not_loaded_with calm v h = absurd h
+  not_loaded_with same_faults verdict.NoMemory h = same_faults
+  not_loaded_with same_faults v h = absurd h
 
   module _ (loaded : Loaded) (loads : LoadsBytes saved.image loaded) where
     -- of the same bytes, what is said of another image and what was saved with it is said of these
@@ -105,8 +105,8 @@ module _ (name : List ℕ) (saved : Saved) (files : Change Held) (reads : ReadsS
         subst (λ l. IsSoundFor l saved.shot) (sym loads.loaded_is) (subst (λ i. IsSoundFor (loaded_of i) saved.shot) image here)
 
     -- it stops them at the end, where no run can be in the state that was saved
-    pub not_sound : IsCalm files → (IsSoundFor loaded saved.shot → ⊥) → IsNotLoaded files (snapshot_stages name) (verdict.Refused (refusal.Evidence evidence.NotSound))
-    not_sound calm never = (
+    pub not_sound : HasSameFaults files → (IsSoundFor loaded saved.shot → ⊥) → IsNotLoaded files (snapshot_stages name) (verdict.Refused (refusal.Evidence evidence.NotSound))
+    not_sound same_faults never = (
       inr (
         (reads.bytes, reads.has),
         inr (
@@ -127,13 +127,13 @@ module _ (name : List ℕ) (saved : Saved) (files : Change Held) (reads : ReadsS
           ),
         ),
       ),
-      calm,
+      same_faults,
     )
 
-    abbrev whole : Snapshot
+    abbrev whole : ResumableNetwork
     whole = record { network = loaded; shot = saved.shot }
 
-    pub loads_whole : IsSoundFor loaded saved.shot → LoadsSnapshot files.old name whole
+    pub loads_whole : IsSoundFor loaded saved.shot → LoadsSnapshot files.old.content name whole
     loads_whole sound = record {
       i = loads.i;
       loaded_is = loads.loaded_is;
@@ -146,7 +146,7 @@ module _ (name : List ℕ) (saved : Saved) (files : Change Held) (reads : ReadsS
       few = loads.few;
     }
 
-    -- what was loaded is ready to be run
+    -- a loaded snapshot is ready to be run
     pub ready_whole : IsSoundFor loaded saved.shot → IsReadySnapshot whole
     ready_whole sound = record {
       image = ready saved.image loaded loads;
@@ -155,7 +155,7 @@ module _ (name : List ℕ) (saved : Saved) (files : Change Held) (reads : ReadsS
       few_tokens = subst (λ (l : Loaded). l.cap ≤ 1024) (sym loads.loaded_is) loads.few;
     }
 
-module _ (name : List ℕ) (snapshot : Snapshot) where
+module _ (name : List ℕ) (snapshot : ResumableNetwork) where
   module _ (files : Option Held) (loads : LoadsSnapshot files name snapshot) where
     abbrev network : Network
     network = continued_network snapshot.network snapshot.shot
@@ -180,7 +180,7 @@ module _ (name : List ℕ) (snapshot : Snapshot) where
         ∙ ap (λ i. continued_network (loaded_of i) loads.saved.shot) image
         ∙ sym network_is
 
-  passes : (files : Change Held) → LoadsSnapshot files.old name snapshot → AllPass files (snapshot_stages name)
+  passes : (files : Change Held) → LoadsSnapshot files.old.content name snapshot → AllPass files (snapshot_stages name)
   passes files loads = all_pass name loads.saved files loads.reads loads.i loads.resumable
 
   -- so the network of the snapshot was loaded

@@ -12,11 +12,11 @@ use Rattle.p3l_compile.proofs.Leaves.{have_codes, same_leaf}
 use Rattle.p3l_firing.specs.declared.net.Net.{Net}
 use Rattle.p3l_units.specs.Table.{Served, leaf}
 use Rattle.p3l_units.specs.laws.Leaf.{gives_outs}
-use Rattle.p3l_firing.specs.Carried.{IsCarried}
+use Rattle.p3l_firing.specs.NetInvariants.{HasInvariants}
 use Rattle.p3l_firing.specs.Typed.{IsTyped}
-use Rattle.p3l_link.specs.Laws.{EveryNetIsCarried}
+use Rattle.p3l_link.specs.Laws.{EveryNetHasInvariants}
 use Rattle.p3l_link.specs.Net.{linked_net}
-use Rattle.p3l_link.specs.Whole.{root_carry}
+use Rattle.p3l_link.specs.Whole.{root_invariants}
 use Rattle.p3l_run.specs.Network.{IsSound, network}
 use Rattle.p3l_load.specs.declared.loaded.Loaded.{Loaded as LoadedImage}
 use Rattle.p3l_program.specs.declared.plan.Allotted.{Allotted}
@@ -24,21 +24,21 @@ use Rattle.p3l_program.specs.Plan.{IsCompiled, network_in, network_of}
 use Rattle.p3l_program.specs.Load.{IsReady}
 use Rattle.p3l_program.specs.LoadImage.{IsReadyImage}
 
--- a linked net is typed and carried
-pub sound : EveryNetIsCarried → (tree : Tree) (leaf : ℕ → List ℤ → Outcome) (counts : List ℕ) (capacity : ℕ) (net : Net) (bound : ℕ) → IsLawfulTree tree → HasLawfulCounts tree counts → 1 ≤ capacity → GivesOuts tree leaf →
+-- a linked net is typed and has invariants
+pub sound : EveryNetHasInvariants → (tree : Tree) (leaf : ℕ → List ℤ → Outcome) (counts : List ℕ) (capacity : ℕ) (net : Net) (bound : ℕ) → IsLawfulTree tree → HasLawfulCounts tree counts → 1 ≤ capacity → GivesOuts tree leaf →
     net ≡ linked_net tree counts capacity → IsTyped tree net → bound ≡ firings tree counts → IsSound (network tree leaf net bound)
-sound carried tree leaf counts capacity net bound lawful fit room gives linked typed bound_is =
-    let carry = root_carry (record { tree = tree; leaf = leaf }) counts in
-    let whole = carried (record { tree = tree; leaf = leaf }) counts capacity (record { lawful = lawful; fit = fit; room = omega arith; gives = gives }) in
-    let here = subst (λ w. IsCarried tree leaf w (firings tree counts) carry) (sym linked) whole in
-    record { typed = typed; carried = (carry, subst (λ n. IsCarried tree leaf net n carry) (sym bound_is) here); begins = tt }
+sound has_invariants tree leaf counts capacity net bound lawful fit room gives linked typed bound_is =
+    let invariants = root_invariants (record { tree = tree; leaf = leaf }) counts in
+    let whole = has_invariants (record { tree = tree; leaf = leaf }) counts capacity (record { lawful = lawful; fit = fit; room = omega arith; gives = gives }) in
+    let here = subst (λ w. HasInvariants tree leaf w (firings tree counts) invariants) (sym linked) whole in
+    record { typed = typed; has_invariants = (invariants, subst (λ n. HasInvariants tree leaf net n invariants) (sym bound_is) here); begins = tt }
 
--- what was loaded is run on its codes by a sound network, which is the one that was loaded
+-- a loaded network is run on its codes by a sound network, which is the one that was loaded
 module _ (loaded : LoadedImage) (ready : IsReadyImage loaded) (units : Served) (units_are : units ≡ record { tree = loaded.tree; codes = loaded.codes }) (bound : ℕ) (bound_is : bound ≡ firings loaded.tree loaded.counts.list) where
-  pub loaded_sound : EveryNetIsCarried → IsSound (network loaded.tree (leaf units) loaded.net bound)
-  loaded_sound carried =
+  pub loaded_sound : EveryNetHasInvariants → IsSound (network loaded.tree (leaf units) loaded.net bound)
+  loaded_sound has_invariants =
       let gives = subst (λ t. GivesOuts t (leaf units)) (ap (λ u. u.tree) units_are) (gives_outs units) in
-      sound carried loaded.tree (leaf units) loaded.counts.list loaded.cap loaded.net bound ready.lawful ready.fit ready.room gives ready.net_is ready.typed bound_is
+      sound has_invariants loaded.tree (leaf units) loaded.counts.list loaded.cap loaded.net bound ready.lawful ready.fit ready.room gives ready.net_is ready.typed bound_is
 
   pub loaded_network : network loaded.tree (leaf units) loaded.net bound ≡ network_in loaded
   loaded_network =

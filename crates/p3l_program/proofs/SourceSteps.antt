@@ -10,13 +10,13 @@ use Rattle.p3l_model.specs.Optimal.{IsChosen}
 use Rattle.p3l_opts.specs.declared.command.Build.{Build}
 use Rattle.p3l_check.specs.Resolving.{resolved}
 use Rattle.p3l_rewrite.specs.Serving.{HasTree}
-use Rattle.p3l_program.specs.declared.source.Source.{Source}
+use Rattle.p3l_program.specs.declared.source.SourceText.{SourceText}
 use Rattle.p3l_program.specs.Load.{LoadsCosts}
 use Rattle.p3l_program.specs.Plan.{AreSaid}
 use Rattle.p3l_program.specs.Source.{IsSourceOf, LoadsPriced, LoadsSource}
 
 -- the program that a text spells, if it keeps all rules, is what the text comes to
-pub source_kept : (text : List ℕ) (source : Source) → Spells text (program_tree source.program) → ((other : ProgramTree) → Spells text other → program_tree source.program ≡ other) →
+pub source_kept : (text : List ℕ) (source : SourceText) → Spells text (program_tree source.program) → ((other : ProgramTree) → Spells text other → program_tree source.program ≡ other) →
     HasTree (program_tree source.program) source.tree → IsSourceOf text source
 source_kept text source spelled only has =
     let keeps = has.accepted.resolves in record {
@@ -31,7 +31,7 @@ source_kept text source spelled only has =
     }
 
 -- it is priced, where costs of its tree are said and some counts are chosen
-pub source_priced : (files : Option Held) (build : Build) (source : Source) (cs : Costs) (counts : Counts) → LoadsSource files build.program source → LoadsCosts files build.costs source.tree cs →
+pub source_priced : (files : Option Held) (build : Build) (source : SourceText) (cs : Costs) (counts : Counts) → LoadsSource files build.program source → LoadsCosts files build.costs source.tree cs →
     IsChosen source.tree cs build.processors counts.list → LoadsPriced files build (record { program = source.program; tree = source.tree; costs = cs; counts = counts })
 source_priced files build source cs counts loads costs chosen =
     let comes = loads.is.comes in record {

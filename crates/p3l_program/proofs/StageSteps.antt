@@ -10,6 +10,7 @@ use Rattle.p3l_cert.specs.declared.cert.CertRefusal.{CertRefusal}
 use Rattle.p3l_grammar.specs.Grammar.{Spells}
 use Rattle.p3l_image.specs.declared.image.Image.{Image}
 use Rattle.p3l_image.specs.declared.image.ImageRefusal.{ImageRefusal}
+use Rattle.p3l_io.specs.Change.{Change, HasRisen}
 use Rattle.p3l_io.specs.Content.{Held}
 use Rattle.p3l_load.specs.declared.loaded.LoadRefusal.{LoadRefusal}
 use Rattle.p3l_opts.specs.declared.command.Build.{Build}
@@ -42,7 +43,6 @@ use Rattle.p3l_program.specs.Scheduled.{HasNoPicks, HasPicks}
 use Rattle.p3l_program.specs.Snapshot.{HasSnapshot, IsNoSnapshot, IsResumable, IsUnsound, SpellsBrokenImage, SpellsNoImage, SpellsWith}
 use Rattle.p3l_program.specs.Stage.{AllPass, IsRefusedBy, Passes, Refuses, Stage, certified, fitting, priced, readable, resolved, scheduled, spelled, text_fitting, text_kept, text_priced, decoded, loaded, migratable, traced, scannable, saved, saved_decoded, saved_loaded, resumable}
 use Rattle.p3l_program.specs.TraceFile.{HasNoTrace, HasTrace}
-use Rattle.p3l_program.specs.World.{Change, HasRisen}
 
 -- a stage that refuses, whatever stages come after it
 pub refused_front : (files : Change Held) (stages more : List Stage) (r : Refusal) → IsRefusedBy files stages r → IsRefusedBy files (stages ++ more) r
@@ -111,7 +111,7 @@ module _ (files : Option Held) (held : Held) (known : files ≡ Some held) where
       let moved : IsPriced none.text has.said r cs = subst (λ t. IsPriced t has.said r cs) (same_text program none.text has.text none.has.holds has.has.holds) has.priced in
       none.refused.never r cs (subst (λ s. IsPriced none.text s r cs) said moved)
 
-  -- where counts fit there are enough processors
+  -- if counts fit, there are enough processors
   fitting_once : (build : Build) (r : ResolvedTree) (cs : Costs) (counts : List ℕ) (need : ℕ) → HasCounts files build r cs counts → HasTooFew files build need → ⊥
   fitting_once build r cs counts need has none =
       let said : has.said ≡ none.said = same_said build.costs none.said has.said none.says has.says in
@@ -131,7 +131,7 @@ module _ (files : Option Held) (held : Held) (known : files ≡ Some held) where
   migrated_once : (name : List ℕ) (i : Image) (why : LoadRefusal) → HasBytes files name (IsMigratable i) → HasBytes files name (IsUnmigratable why) → ⊥
   migrated_once name i why has none = none.are.never i (subst (λ b. IsMigratable i b) (same_text name none.bytes has.bytes none.has.holds has.has.holds) has.are)
 
-  -- what is run has one list of texts
+  -- an origin has one list of texts
   same_texts : (origin : Origin) (texts others : Texts) → HaveTexts files origin texts → HaveTexts files origin others → texts ≡ others
   same_texts (built build) texts others a b =
       ap (λ t. texts_with t texts.said) (same_text build.program others.text texts.text b.0.holds a.0.holds)
@@ -165,7 +165,7 @@ module _ (files : Option Held) (held : Held) (known : files ≡ Some held) where
       let accepted : IsAccepted none.text r = subst (λ t. IsAccepted t r) (same_text name none.text has.has.text none.has.holds has.has.has.holds) has.has.accepted in
       can_or_not r.tree segments why has.can (subst (λ o. IsUnscannable o.tree segments why) (sym (none.refused.only r accepted)) none.refused.refused)
 
-  -- where a file has picks for the network it is not refused
+  -- a file that has picks for the network is not refused
   scheduled_once : (origin : Origin) (name : List ℕ) (n : Network) (s : Schedule) (refused : PickRefusal) → HasNetwork files origin n → HasPicks files (size_of n) name s → HasNoPicks files origin name refused → ⊥
   scheduled_once origin name n s refused has reads none =
       let is : IsNetworkOf origin none.texts n = subst (λ t. IsNetworkOf origin t n) (same_texts origin has.texts none.texts has.have none.have) has.is in
@@ -182,39 +182,39 @@ module _ (files : Option Held) (held : Held) (known : files ≡ Some held) where
       let two : IsCertified none.text none.said has.written r cs cert = subst (λ s. IsCertified none.text s has.written r cs cert) said one in
       none.refused.never r cs cert (subst (λ t. IsCertified none.text none.said t r cs cert) written two)
 
-  -- where a file has a trace it is not refused
+  -- a file that has a trace is not refused
   traced_once : (name : List ℕ) (t : Traced) (line : ℕ) → HasTrace files name t → HasNoTrace files name line → ⊥
   traced_once name t line has none = none.none.no_trace t has.fits (sym (same_text name none.text has.text none.has.holds has.has.holds) ∙ has.spelled)
 
-module _ (files : Change Held) (held : Held) (known : files.old ≡ Some held) (calm : HasRisen files → ⊥) where
+module _ (files : Change Held) (held : Held) (known : files.old.content ≡ Some held) (faultless : HasRisen files → ⊥) where
   -- a stage that is passed refuses nothing
   passed_stage : (stage : Stage) (r : Refusal) → Passes files stage → Refuses files stage r → ⊥
-  passed_stage (readable limit name) (refusal.FileFault named) p h = calm h.1.0
-  passed_stage (readable limit name) (refusal.FileTooLong named) p h = not_longer files.old held known limit name p.0 p.1 h.1
-  passed_stage (spelled name) (refusal.Source fault pos) p h = spelled_once files.old held known name p.0 fault pos p.1 h
-  passed_stage (resolved name) (refusal.Source fault pos) p h = accepted_once files.old held known name p.0 fault pos p.1 h
-  passed_stage (priced program costs) (refusal.Costs why) p h = priced_once files.old held known program costs p.0 p.1 why p.2 h
-  passed_stage (fitting build) (refusal.TooFew need) p h = fitting_once files.old held known build p.0 p.1 p.2 need p.3 h
-  passed_stage (decoded name) (refusal.Evidence (evidence.Image why)) p h = decoded_once files.old held known name p.0 why p.1 h
-  passed_stage (loaded name) (refusal.Evidence (evidence.Load why)) p h = loaded_once files.old held known name p.0 why p.1 h
-  passed_stage (migratable name) (refusal.Evidence (evidence.Load why)) p h = migrated_once files.old held known name p.0 why p.1 h
-  passed_stage (scheduled origin name) (refusal.Schedule why) p h = scheduled_once files.old held known origin name p.0 p.1 why p.2 p.3 h
-  passed_stage (certified program costs name) (refusal.Evidence (evidence.Cert why)) p h = certified_once files.old held known program costs name p.0 p.1 p.2 why p.3 h
-  passed_stage (traced name) (refusal.Evidence (evidence.Trace (trace.BadLine line))) p h = traced_once files.old held known name p.0 line p.1 h
+  passed_stage (readable limit name) (refusal.FileFault named) p h = faultless h.1.0
+  passed_stage (readable limit name) (refusal.FileTooLong named) p h = not_longer files.old.content held known limit name p.0 p.1 h.1
+  passed_stage (spelled name) (refusal.Source fault pos) p h = spelled_once files.old.content held known name p.0 fault pos p.1 h
+  passed_stage (resolved name) (refusal.Source fault pos) p h = accepted_once files.old.content held known name p.0 fault pos p.1 h
+  passed_stage (priced program costs) (refusal.Costs why) p h = priced_once files.old.content held known program costs p.0 p.1 why p.2 h
+  passed_stage (fitting build) (refusal.TooFew need) p h = fitting_once files.old.content held known build p.0 p.1 p.2 need p.3 h
+  passed_stage (decoded name) (refusal.Evidence (evidence.Image why)) p h = decoded_once files.old.content held known name p.0 why p.1 h
+  passed_stage (loaded name) (refusal.Evidence (evidence.Load why)) p h = loaded_once files.old.content held known name p.0 why p.1 h
+  passed_stage (migratable name) (refusal.Evidence (evidence.Load why)) p h = migrated_once files.old.content held known name p.0 why p.1 h
+  passed_stage (scheduled origin name) (refusal.Schedule why) p h = scheduled_once files.old.content held known origin name p.0 p.1 why p.2 p.3 h
+  passed_stage (certified program costs name) (refusal.Evidence (evidence.Cert why)) p h = certified_once files.old.content held known program costs name p.0 p.1 p.2 why p.3 h
+  passed_stage (traced name) (refusal.Evidence (evidence.Trace (trace.BadLine line))) p h = traced_once files.old.content held known name p.0 line p.1 h
   passed_stage (text_kept text) (refusal.Source fault pos) p h = h.never p.0 p.1
   passed_stage (text_priced text said) (refusal.Costs why) p h = h.never p.0 p.1 p.2
   passed_stage (text_fitting text said processors) (refusal.TooFew need) p h = h.never p.0 p.1 p.2 p.3
-  passed_stage (scannable name segments) (refusal.Scan why) p h = scanned_once files.old held known name segments p.0 why p.1 h
-  passed_stage (saved name) (refusal.Evidence (evidence.Shot why)) p h = saved_once files.old held known name p.0 why p.1 h
-  passed_stage (saved_decoded name) (refusal.Evidence (evidence.Image why)) p h = saved_decoded_once files.old held known name p.0 why p.1 h
-  passed_stage (saved_loaded name) (refusal.Evidence (evidence.Load why)) p h = saved_loaded_once files.old held known name p.0 why p.1 h
-  passed_stage (resumable name) (refusal.Evidence evidence.NotSound) p h = resumable_once files.old held known name p.0 p.1 p.2 h
+  passed_stage (scannable name segments) (refusal.Scan why) p h = scanned_once files.old.content held known name segments p.0 why p.1 h
+  passed_stage (saved name) (refusal.Evidence (evidence.Shot why)) p h = saved_once files.old.content held known name p.0 why p.1 h
+  passed_stage (saved_decoded name) (refusal.Evidence (evidence.Image why)) p h = saved_decoded_once files.old.content held known name p.0 why p.1 h
+  passed_stage (saved_loaded name) (refusal.Evidence (evidence.Load why)) p h = saved_loaded_once files.old.content held known name p.0 why p.1 h
+  passed_stage (resumable name) (refusal.Evidence evidence.NotSound) p h = resumable_once files.old.content held known name p.0 p.1 p.2 h
   passed_stage stage r p h = absurd h
 
   -- a stage refuses with one status
   refused_stage : (stage : Stage) (r other : Refusal) → Refuses files stage r → Refuses files stage other → refusal_status r ≡ refusal_status other
-  refused_stage (readable limit name) (refusal.FileFault a) other h k = absurd (calm h.1.0)
-  refused_stage (readable limit name) (refusal.FileTooLong a) (refusal.FileFault b) h k = absurd (calm k.1.0)
+  refused_stage (readable limit name) (refusal.FileFault a) other h k = absurd (faultless h.1.0)
+  refused_stage (readable limit name) (refusal.FileTooLong a) (refusal.FileFault b) h k = absurd (faultless k.1.0)
   refused_stage (readable limit name) (refusal.FileTooLong a) (refusal.FileTooLong b) h k = refl
   refused_stage (spelled name) (refusal.Source fault pos) (refusal.Source other at) h k = refl
   refused_stage (resolved name) (refusal.Source fault pos) (refusal.Source other at) h k = refl
@@ -236,7 +236,7 @@ module _ (files : Change Held) (held : Held) (known : files.old ≡ Some held) (
   refused_stage (resumable name) (refusal.Evidence evidence.NotSound) (refusal.Evidence other) h k = refl
   refused_stage stage r other h k = absurd (search (h, k))
 
-  -- where all stages pass none refuses
+  -- if all stages pass, none refuses
   pub passed_all : (stages : List Stage) (r : Refusal) → AllPass files stages → IsRefusedBy files stages r → ⊥
   passed_all [] r p h = h
   passed_all (stage ∷ stages) r p (inl h) = passed_stage stage r p.0 h

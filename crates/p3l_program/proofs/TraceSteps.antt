@@ -4,7 +4,7 @@ use Rattle.std.specs.declared.result.Result.TheVariants.{Ok, Err}
 use Rattle.std.specs.List.{AllByRecursion}
 use Rattle.std.proofs.lemmas.Bool.{le-leb, lt-leb}
 use Rattle.std.proofs.lemmas.List.Elements.{recursion_from_All}
-use Rattle.p3l_io.specs.Causes.{Rose}
+use Rattle.p3l_io.specs.Change.{Change, HasRisen, HasSameFaults}
 use Rattle.p3l_io.specs.Content.{Held}
 use Rattle.p3l_opts.specs.declared.command.Build.{Build}
 use Rattle.p3l_report.specs.declared.evidence.Evidence.TheVariants as evidence
@@ -46,31 +46,32 @@ use Rattle.p3l_program.specs.Stage.{AllPass, FilesCause, IsRefusedBy, Refuses, b
 use Rattle.p3l_program.specs.Trace.{Agreed, BeginsTrace, ChecksWhole, EndsTrace, HasBadTrace, IsCheckExpected, IsCheckOf, IsCheckSome, IsTraceStatus, IsUnrefused, IsUntraced, agreed_status, check_stages, comes_to_end, holds_line}
 use Rattle.p3l_program.specs.File.{HasText}
 use Rattle.p3l_program.specs.TraceFile.{HasTrace, SpellsNoTrace, trace_limit}
-use Rattle.p3l_program.specs.World.{Change, HasNoFault, HasRisen, IsCalm, World, world}
-use Rattle.p3l_program.proofs.SeenSteps.{GoesOnTo, at_end_left, ending_unstopped, seen_goes_on, wide_tail}
+use Rattle.p3l_program.specs.World.{HasNoFault, World, world}
+use Rattle.p3l_program.proofs.EndSteps.{ended_same_faults, unrefused_same_faults}
+use Rattle.p3l_program.proofs.SeenSteps.{GoesOnTo, at_end_left, ending_unstopped, seen_goes_on, taken_known, wide_tail}
 use Rattle.p3l_program.proofs.StageSteps.{passed_both, refused_after}
 
 -- a text that is read as no trace
-pub untraced : (files : Change Held) (name text : List ℕ) (why : TraceRefusal) → HasText files.old trace_limit name text → IsCalm files →
+pub untraced : (files : Change Held) (name text : List ℕ) (why : TraceRefusal) → HasText files.old.content trace_limit name text → HasSameFaults files →
     ((t : Traced) → trace_format.fits t ≡ true → text ≡ trace_format.spell t → Answers text (Err why) (Ok t)) → ReportsFirst text (Err why) →
     IsUntraced files name (verdict_of (refusal.Evidence (evidence.Trace why)))
-untraced files name text refusals.NoMemory has calm only first = calm
-untraced files name text (refusals.BadLine line) has calm only first =
+untraced files name text refusals.NoMemory has same_faults only first = same_faults
+untraced files name text (refusals.BadLine line) has same_faults only first =
     let none : SpellsNoTrace text line = record { first = first; no_trace = λ t fits spelled. absurd (let z = only t fits spelled in cc) } in
-    inr (record { line = line; is = refl; none = record { text = text; has = has; none = none }; calm = calm })
+    inr (record { line = line; is = refl; none = record { text = text; has = has; none = none }; same_faults = same_faults })
 
-module _ (files : Change Held) (input out : Change (List ℕ)) (build : Build) (n : Network) (loads : LoadsNetwork files.old (built build) n) (name : List ℕ) where
-  has : HasNetwork files.old (built build) n
+module _ (files : Change Held) (input out : Change (List ℕ)) (build : Build) (n : Network) (loads : LoadsNetwork files.old.content (built build) n) (name : List ℕ) where
+  has : HasNetwork files.old.content (built build) n
   has = record { texts = loads.texts; have = loads.have; is = loads.is }
 
   passed : AllPass files (build_stages build)
   passed = loads.passed files refl
 
-  all_passes : (t : Traced) → HasTrace files.old name t → AllPass files (check_stages build name)
+  all_passes : (t : Traced) → HasTrace files.old.content name t → AllPass files (check_stages build name)
   all_passes t h = passed_both files (build_stages build) (readable trace_limit name ∷ (traced name ∷ [])) passed ((h.text, h.has), ((t, h), tt))
 
   bad_trace : (r : Refusal) → HasBadTrace files name r → Refuses files (traced name) r × FilesCause r files
-  bad_trace r h = subst (λ k. Refuses files (traced name) k × FilesCause k files) (sym h.is) (h.none, h.calm)
+  bad_trace r h = subst (λ k. Refuses files (traced name) k × FilesCause k files) (sym h.is) (h.none, h.same_faults)
 
   refused_by : (r : Refusal) → IsUntraced files name (verdict.Refused r) → IsRefusedBy files (check_stages build name) r × FilesCause r files
   refused_by r (inl h) = (refused_after files (build_stages build) (readable trace_limit name ∷ (traced name ∷ [])) r passed (inl h.0), h.1)
@@ -83,18 +84,18 @@ module _ (files : Change Held) (input out : Change (List ℕ)) (build : Build) (
 
   -- the verdict of the check is expected
   pub check_expected : (v : Verdict) → IsCheckOf n files input out name v → IsCheckExpected (world files input out) build name v
-  check_expected (verdict.Refused r) h = (let by = refused_by r h.0 in record { by = by.0; untouched = record { input = h.1.input_still; out = h.1.out_still }; files = by.1 })
+  check_expected (verdict.Refused r) h = (let by = refused_by r h.0 in record { by = by.0; untouched = record { input = h.1.input_still; output = h.1.output_still }; files = by.1 })
   check_expected (verdict.Ended f stats) h = record {
     passed = all_passes h.t h.trace;
     ends = record { n = n; t = h.t; has = record { network = has; trace = h.trace }; stats_are = h.stats_are; checked = h.checked };
-    files = h.files_calm;
-    out = h.out_calm;
+    files = h.same_file_faults;
+    output = h.same_output_faults;
   }
   check_expected verdict.WriteFault h = record {
     begun = record { passed = all_passes h.0.t h.0.trace; begins = begins_check h.0 };
-    fault = inl (record { files = h.0.files_calm; out = h.1 });
+    fault = inl (record { files = h.0.same_file_faults; output = h.1 });
   }
-  check_expected verdict.NoMemory (inl h) = inl (record { input = h.input_still; out = h.out_still })
+  check_expected verdict.NoMemory (inl h) = inl (record { input = h.input_still; output = h.output_still })
   check_expected verdict.NoMemory (inr h) = inr (record { passed = all_passes h.t h.trace; begins = begins_check h })
 
 -- a check that came to its end was begun
@@ -105,34 +106,22 @@ ends_check w build name finish.Done stats h = record {
   has = h.has;
   begun = inr (record { close = h.checked.close; agrees = h.checked.agrees; begun = record { written = holds_line h.t; more = []; put = h.checked.put; text_is = append-nil (holds_line h.t) } });
 }
-ends_check w build name (finish.Run (end.Stream e)) stats h = record { n = h.n; t = h.t; has = h.has; begun = inl h.checked.out }
-ends_check w build name (finish.Differs line) stats h = record { n = h.n; t = h.t; has = h.has; begun = inl h.checked.out }
+ends_check w build name (finish.Run (end.Stream e)) stats h = record { n = h.n; t = h.t; has = h.has; begun = inl h.checked.output }
+ends_check w build name (finish.Differs line) stats h = record { n = h.n; t = h.t; has = h.has; begun = inl h.checked.output }
 ends_check w build name (finish.Run (end.Stopped fired idle)) stats h = absurd h.checked
 ends_check w build name (finish.Run (end.Trapped item kind home)) stats h = absurd h.checked
 
--- how the count of the input goes, where it was not refused as far as it was requested
-unrefused_calm : (close : Option Ending) (before now : ℕ) → IsUnrefused close → GivenCause (closed_so close) before now → now ≡ before
-unrefused_calm close before now (inl none) cause = subst (λ c. GivenCause (closed_so c) before now) none cause
-unrefused_calm close before now (inr end) cause = subst (λ c. GivenCause (closed_so c) before now) end cause
-
-pub check_calm : (w : World) (build : Build) (name : List ℕ) (f : Finish) (stats : Option Stats) (k : ℕ) → EndsTrace w build name f stats → finish_status f ≡ k → (k ≡ status.evidence → ⊥) → (k ≡ status.read → ⊥) → w.input.now ≡ w.input.before
-check_calm w build name finish.Done stats k h is other read = unrefused_calm h.checked.close w.input.before w.input.now h.checked.unrefused h.checked.agrees.gives.cause
-check_calm w build name (finish.Run (end.Stream e)) stats k h is other read = by e (λ same. read (sym is ∙ ap ending_status same)) h.checked.agrees.gives.cause
-  where
-    by : (e : Ending) → (e ≡ ending.ReadFault → ⊥) → GivenCause (closed_so (Some e)) w.input.before w.input.now → w.input.now ≡ w.input.before
-    by ending.End unlike cause = cause
-    by (ending.BadWord line) unlike cause = cause
-    by (ending.WrongCount line had) unlike cause = cause
-    by (ending.OutOfRange line) unlike cause = cause
-    by ending.ReadFault unlike cause = absurd (unlike refl)
-    by ending.TooLong unlike cause = cause
-check_calm w build name (finish.Differs line) stats k h is other read = absurd (other (sym is))
-check_calm w build name (finish.Run (end.Stopped fired idle)) stats k h is other read = absurd h.checked
-check_calm w build name (finish.Run (end.Trapped item kind home)) stats k h is other read = absurd h.checked
+-- a check of which no line differs lets the count of the input stay, unless reading failed
+pub check_same_faults : (w : World) (build : Build) (name : List ℕ) (f : Finish) (stats : Option Stats) (k : ℕ) → EndsTrace w build name f stats → finish_status f ≡ k → (k ≡ status.evidence → ⊥) → (k ≡ status.read → ⊥) → HasSameFaults w.input
+check_same_faults w build name finish.Done stats k h is other read = unrefused_same_faults h.checked.close w.input h.checked.unrefused h.checked.agrees.gives.cause
+check_same_faults w build name (finish.Run (end.Stream e)) stats k h is other read = ended_same_faults e w.input (λ same. read (sym is ∙ same)) h.checked.agrees.gives.cause
+check_same_faults w build name (finish.Differs line) stats k h is other read = absurd (other (sym is))
+check_same_faults w build name (finish.Run (end.Stopped fired idle)) stats k h is other read = absurd h.checked
+check_same_faults w build name (finish.Run (end.Trapped item kind home)) stats k h is other read = absurd h.checked
 
 pub check_read : (w : World) (build : Build) (name : List ℕ) (f : Finish) (stats : Option Stats) → EndsTrace w build name f stats → finish_status f ≡ status.read → HasRisen w.input
 check_read w build name finish.Done stats h is = absurd (omega arith)
-check_read w build name (finish.Run (end.Stream e)) stats h is = subst (λ k. GivenCause (closed_so (Some k)) w.input.before w.input.now) (statuses.read_is e is) h.checked.agrees.gives.cause
+check_read w build name (finish.Run (end.Stream e)) stats h is = subst (λ k. GivenCause (closed_so (Some k)) w.input) (statuses.read_is e is) h.checked.agrees.gives.cause
 check_read w build name (finish.Differs line) stats h is = absurd (omega arith)
 check_read w build name (finish.Run (end.Stopped fired idle)) stats h is = absurd h.checked
 check_read w build name (finish.Run (end.Trapped item kind home)) stats h is = absurd h.checked
@@ -161,10 +150,9 @@ module _ (n : Network) (items later : List (List ℤ)) where
       le-leb _ _ (omega (arith, request, size, empty))
 
 -- so the status of a check of which no line differs is that of what is seen
-module _ (n : Network) (t : Traced) (rest : List ℕ) (close : Option Ending) (old new : Option (List ℕ)) (before now : ℕ) (known : old ≡ Some rest) (calm : Rose before now → ⊥)
-    (on : AgreesOn n t old new before now close) where
+module _ (n : Network) (t : Traced) (rest : List ℕ) (close : Option Ending) (input : Change (List ℕ)) (known : input.old.content ≡ Some rest) (faultless : HasRisen input → ⊥) (on : AgreesOn n t input close) where
   to : GoesOnTo n close on.items rest
-  to = seen_goes_on n rest old new before now close on.stream on.items on.gives known calm
+  to = seen_goes_on n rest input close on.stream on.items on.gives known faultless
 
   agrees_seen : Agrees n.tree n.leaf n.net (begun_with n (seen_of (width_of n) rest).items) t
   agrees_seen = subst (λ (i : Items). Agrees n.tree n.leaf n.net (begun_with n i.items) t) (sym to.seen) (on.holds to.later to.may_come)
@@ -186,9 +174,9 @@ module _ (n : Network) (t : Traced) (rest : List ℕ) (close : Option Ending) (o
       status_by true (ends_there n on.items to.later (picks_of t.lines) e (to.may_come.none e is) (subst (λ c. IsRequestedBy n (on.items ++ to.later) (picks_of t.lines) (length on.items) c) is request_seen))
       ∙ ap ending_status (sym (subst (λ c. MayEnd c to.e) is to.may_end))
 
--- where no fault comes the check ends by what is seen of the input
-pub check_status : (w : World) (build : Build) (name rest : List ℕ) (f : Finish) (stats : Option Stats) → w.input.old ≡ Some rest → HasNoFault w → EndsTrace w build name f stats → IsTraceStatus w build name rest (finish_status f)
-check_status w build name rest finish.Done stats known calm h =
+-- without a fault, the input as it is seen determines how the check ends
+pub check_status : (w : World) (build : Build) (name rest : List ℕ) (f : Finish) (stats : Option Stats) → w.input.old.content ≡ Some rest → HasNoFault w → EndsTrace w build name f stats → IsTraceStatus w build name rest (finish_status f)
+check_status w build name rest finish.Done stats known faultless h =
     let on = h.checked.agrees in
     record {
       n = h.n;
@@ -196,31 +184,31 @@ check_status w build name rest finish.Done stats known calm h =
       has = h.has;
       status_is = inr (
         elim h.checked.unrefused [
-          | inl none ↦ sym (agreed_open h.n h.t rest h.checked.close _ _ _ _ known calm.input on none)
-          | inr end ↦ sym (agreed_ended h.n h.t rest h.checked.close _ _ _ _ known calm.input on ending.End end)
+          | inl none ↦ sym (agreed_open h.n h.t rest h.checked.close _ known faultless.input on none)
+          | inr end ↦ sym (agreed_ended h.n h.t rest h.checked.close _ known faultless.input on ending.End end)
         ],
-        agrees_seen h.n h.t rest h.checked.close _ _ _ _ known calm.input on,
+        agrees_seen h.n h.t rest h.checked.close _ known faultless.input on,
       );
     }
-check_status w build name rest (finish.Run (end.Stream e)) stats known calm h =
+check_status w build name rest (finish.Run (end.Stream e)) stats known faultless h =
     let on = h.checked.agrees in
     record {
       n = h.n;
       t = h.t;
       has = h.has;
-      status_is = inr (sym (agreed_ended h.n h.t rest (Some e) _ _ _ _ known calm.input on e refl), agrees_seen h.n h.t rest (Some e) _ _ _ _ known calm.input on);
+      status_is = inr (sym (agreed_ended h.n h.t rest (Some e) _ known faultless.input on e refl), agrees_seen h.n h.t rest (Some e) _ known faultless.input on);
     }
-check_status w build name rest (finish.Differs line) stats known calm h =
+check_status w build name rest (finish.Differs line) stats known faultless h =
     let on = h.checked.differs.1 in
-    let to = seen_goes_on h.n rest w.input.old w.input.new w.input.before w.input.now h.checked.differs.0 on.stream on.items on.gives known calm.input in
+    let to = seen_goes_on h.n rest w.input h.checked.differs.0 on.stream on.items on.gives known faultless.input in
     record {
       n = h.n;
       t = h.t;
       has = h.has;
       status_is = inl (refl, (line, subst (λ (i : Items). DiffersAt h.n.tree h.n.leaf h.n.net (begun_with h.n i.items) h.t line) (sym to.seen) (on.holds to.later to.may_come)));
     }
-check_status w build name rest (finish.Run (end.Stopped fired idle)) stats known calm h = absurd h.checked
-check_status w build name rest (finish.Run (end.Trapped item kind home)) stats known calm h = absurd h.checked
+check_status w build name rest (finish.Run (end.Stopped fired idle)) stats known faultless h = absurd h.checked
+check_status w build name rest (finish.Run (end.Trapped item kind home)) stats known faultless h = absurd h.checked
 
 -- all items of an input go on from those given
 pub record GoesOnAll (n : Network) (close : Option Ending) (items : List (List ℤ)) (rest : List ℕ) : Type 0 where
@@ -261,21 +249,20 @@ module _ (n : Network) (rest : List ℕ) (s : Seen) (items : List (List ℤ)) (b
       subst (λ c. GoesOnAll n c items rest) (sym end) (goes_on_ended (subst (λ c. Closes (width_of n) s bytes items c) (closed ∙ ap closed_so end) given.closes))
 
 -- so do all items of an input that reports what is left
-pub all_go_on : (n : Network) (rest : List ℕ) (old new : Option (List ℕ)) (before now : ℕ) (close : Option Ending) (s : Seen) (items : List (List ℤ)) → Gives (width_of n) old new before now s items (closed_so close) →
-    old ≡ Some rest → IsUnrefused close → GoesOnAll n close items rest
-all_go_on n rest None new before now close s items g known unrefused = absurd cc
-all_go_on n rest (Some other) new before now close s items g known unrefused =
-    let same : other ≡ rest = cc in
-    goes_on_all n rest s items g.bytes g.read.0 g.given (sym same ∙ g.read.2) (λ h. at_end_left new g.read.0 g.read.1 (g.at_end h)) close g.closed_is unrefused
+pub all_go_on : (n : Network) (rest : List ℕ) (input : Change (List ℕ)) (close : Option Ending) (s : Seen) (items : List (List ℤ)) → Gives (width_of n) input s items (closed_so close) →
+    input.old.content ≡ Some rest → IsUnrefused close → GoesOnAll n close items rest
+all_go_on n rest input close s items g known unrefused =
+    let read = taken_known input rest g.bytes known g.read in
+    goes_on_all n rest s items g.bytes read.0 g.given read.2 (λ h. at_end_left input.new.content read.0 read.1 (g.at_end h)) close g.closed_is unrefused
 
-agreed_all : (w : World) (n : Network) (t : Traced) (rest : List ℕ) → w.input.old ≡ Some rest → Agreed w n t → Agrees n.tree n.leaf n.net (begun_with n (items_of (width_of n) rest).items) t
+agreed_all : (w : World) (n : Network) (t : Traced) (rest : List ℕ) → w.input.old.content ≡ Some rest → Agreed w n t → Agrees n.tree n.leaf n.net (begun_with n (items_of (width_of n) rest).items) t
 agreed_all w n t rest known a =
     let on = a.agrees in
-    let to = all_go_on n rest w.input.old w.input.new w.input.before w.input.now a.close on.stream on.items on.gives known a.unrefused in
+    let to = all_go_on n rest w.input a.close on.stream on.items on.gives known a.unrefused in
     subst (λ i. Agrees n.tree n.leaf n.net (begun_with n i) t) (sym to.all) (on.holds to.later to.may_come)
 
 -- a check of status 0 is whole
-pub check_whole : (w : World) (build : Build) (name rest taken : List ℕ) (f : Finish) (stats : Option Stats) → ((text : List ℕ) → HasPut w.out.old w.out.new text → w.out.new ≡ Some (taken ++ text)) → w.input.old ≡ Some rest → finish_status f ≡ status.done →
+pub check_whole : (w : World) (build : Build) (name rest taken : List ℕ) (f : Finish) (stats : Option Stats) → ((text : List ℕ) → HasPut w.output text → w.output.new.content ≡ Some (taken ++ text)) → w.input.old.content ≡ Some rest → finish_status f ≡ status.done →
     EndsTrace w build name f stats → ChecksWhole w build name rest taken
 check_whole w build name rest taken finish.Done stats put input h e = record {
   n = e.n;

@@ -1,6 +1,7 @@
 -- From an accepted text with its tree to the stages of its costs and its counts.
 use Rattle.std.proofs.Common.{◌≡◌, ℕ, List, [], ◌∷◌, ◌++◌, ◌⊎◌, Option, Some, None, refl, ap, ◌∙◌, inl, inr, subst, sym}
 use Rattle.std.specs.declared.result.Result.TheVariants.{Ok, Err}
+use Rattle.p3l_io.specs.Change.{Change, HasSameFaults}
 use Rattle.p3l_io.specs.Content.{Held}
 use Rattle.p3l_skel.specs.declared.tree.Tree.{Tree}
 use Rattle.p3l_skel.specs.Numbers.{Fits}
@@ -20,7 +21,6 @@ use Rattle.p3l_program.specs.File.{HasText, text_limit}
 use Rattle.p3l_program.specs.Load.{IsCostless, IsNotLoaded, IsUnchosen, IsUnfit}
 use Rattle.p3l_program.specs.Source.{ComesToTree}
 use Rattle.p3l_program.specs.Stage.{AllPass, FilesCause, IsRefusedBy, Stage, build_stages, cost_stages, fitting, program_stages}
-use Rattle.p3l_program.specs.World.{Change, IsCalm}
 use Rattle.p3l_program.proofs.StageSteps.{passed_both, refused_after}
 
 -- a text that says costs is not refused
@@ -40,7 +40,7 @@ said_once tree said cs (costs.Missing key) says none = two says none.read
     two : Says tree said (Ok cs) → Says tree said (Err (costs.Missing key)) → ⊥
     two a b = let p = a.is.parsed in let q = b.is.parsed in let one : a.document ≡ b.document = cc in let x = a.says in let y = ap (costs_in tree) one ∙ b.says in absurd cc
 
-module _ (files : Change Held) (name : List ℕ) (r : ResolvedTree) (tree : Tree) (text : List ℕ) (has : HasText files.old text_limit name text) (comes : ComesToTree text r tree) where
+module _ (files : Change Held) (name : List ℕ) (r : ResolvedTree) (tree : Tree) (text : List ℕ) (has : HasText files.old.content text_limit name text) (comes : ComesToTree text r tree) where
   pub program_passes : AllPass files (program_stages name)
   program_passes = ((text, has), ((r, record { text = text; has = has; accepted = comes.accepted }), tt))
 
@@ -67,14 +67,14 @@ module _ (files : Change Held) (name : List ℕ) (r : ResolvedTree) (tree : Tree
         };
       }),
     ),
-    h.calm,
+    h.same_faults,
   )
     where
       here : IsUnsaid r.tree h.said why
       here = subst (λ t. IsUnsaid t h.said why) comes.tree_is h.no_costs
   costless_some costs more refused (inr h) = absurd (h.no_costs)
 
-  -- where no costs are loaded their stages don't pass, whatever stages come after
+  -- if no costs are loaded, their stages don't pass, whatever stages come after
   pub costless : (costs : Option (List ℕ)) (more : List Stage) (v : Verdict) → IsCostless files costs tree v → IsNotLoaded files (program_stages name ++ (cost_stages name costs ++ more)) v
   costless None more (verdict.Refused refused) h = absurd h
   costless (Some costs) more (verdict.Refused refused) h =
@@ -87,15 +87,15 @@ module _ (files : Change Held) (name : List ℕ) (r : ResolvedTree) (tree : Tree
   costless None more verdict.WriteFault h = absurd h
   costless (Some costs) more verdict.WriteFault h = absurd h
 
-  pub costs_pass : (costs said : Option (List ℕ)) (cs : Costs) → HasCostText files.old costs said → AreSaid tree said cs → AllPass files (cost_stages name costs)
+  pub costs_pass : (costs said : Option (List ℕ)) (cs : Costs) → HasCostText files.old.content costs said → AreSaid tree said cs → AllPass files (cost_stages name costs)
   costs_pass None said cs says are = tt
   costs_pass (Some costs) None cs says are = absurd says
   costs_pass (Some costs) (Some t) cs says are = ((t, says), ((r, cs, record { text = text; has = has; said = Some t; says = says; priced = priced_here (Some t) cs are }), tt))
 
-module _ (files : Change Held) (build : Build) (r : ResolvedTree) (tree : Tree) (text : List ℕ) (has : HasText files.old text_limit build.program text) (comes : ComesToTree text r tree) where
-  module _ (said : Option (List ℕ)) (says : HasCostText files.old build.costs said) (cs : Costs) (are : AreSaid tree said cs) where
-    pub too_few : (need : ℕ) → IsShort tree build.processors need → IsCalm files → IsNotLoaded files (build_stages build) (verdict.Refused (refusal.TooFew need))
-    too_few need short calm =
+module _ (files : Change Held) (build : Build) (r : ResolvedTree) (tree : Tree) (text : List ℕ) (has : HasText files.old.content text_limit build.program text) (comes : ComesToTree text r tree) where
+  module _ (said : Option (List ℕ)) (says : HasCostText files.old.content build.costs said) (cs : Costs) (are : AreSaid tree said cs) where
+    pub too_few : (need : ℕ) → IsShort tree build.processors need → HasSameFaults files → IsNotLoaded files (build_stages build) (verdict.Refused (refusal.TooFew need))
+    too_few need short same_faults =
         let here : IsShort r.tree build.processors need = subst (λ t. IsShort t build.processors need) comes.tree_is short in (
           refused_after files (program_stages build.program) (cost_stages build.program build.costs ++ fitting build ∷ []) (refusal.TooFew need) (program_passes files build.program r tree text has comes)
               (refused_after files (cost_stages build.program build.costs) (fitting build ∷ []) (refusal.TooFew need) (costs_pass files build.program r tree text has comes build.costs said cs says are)
@@ -114,14 +114,14 @@ module _ (files : Change Held) (build : Build) (r : ResolvedTree) (tree : Tree) 
                       here.none counts (subst (λ t. Fits t.tree build.processors counts) (comes.only other p.priced.accepted) fits);
                 };
               }))),
-          calm,
+          same_faults,
         )
 
   not_chosen : (v : Verdict) → IsCostless files build.costs tree v ⊎ IsUnfit files build.costs tree build.processors v → IsNotLoaded files (build_stages build) v
   not_chosen v (inl h) = costless files build.program r tree text has comes build.costs (fitting build ∷ []) v h
-  not_chosen v (inr h) = subst (λ v. IsNotLoaded files (build_stages build) v) (sym h.verdict_is) (too_few h.loads.said h.loads.says h.cs h.loads.costs h.need h.short h.calm)
+  not_chosen v (inr h) = subst (λ v. IsNotLoaded files (build_stages build) v) (sym h.verdict_is) (too_few h.loads.said h.loads.says h.cs h.loads.costs h.need h.short h.same_faults)
 
-  -- where no counts are chosen the stages of a build don't pass
+  -- if no counts are chosen, the stages of a build don't pass
   pub unchosen : (v : Verdict) → IsUnchosen files build.costs tree build.processors v → IsNotLoaded files (build_stages build) v
   unchosen (verdict.Refused refused) h = not_chosen (verdict.Refused refused) h
   unchosen (verdict.Ended finish stats) h = not_chosen (verdict.Ended finish stats) h
@@ -136,13 +136,13 @@ costless_unchosen files costs tree processors verdict.WriteFault h = inl h
 costless_unchosen files None tree processors verdict.NoMemory h = h
 costless_unchosen files (Some name) tree processors verdict.NoMemory h = h
 
-module _ (files : Change Held) (build : Build) (r : ResolvedTree) (cs : Costs) (counts : List ℕ) (has : HasCounts files.old build r cs counts) where
-  priced_pass : (costs said : Option (List ℕ)) → HasCostText files.old costs said → IsPriced has.text said r cs → AllPass files (cost_stages build.program costs)
+module _ (files : Change Held) (build : Build) (r : ResolvedTree) (cs : Costs) (counts : List ℕ) (has : HasCounts files.old.content build r cs counts) where
+  priced_pass : (costs said : Option (List ℕ)) → HasCostText files.old.content costs said → IsPriced has.text said r cs → AllPass files (cost_stages build.program costs)
   priced_pass None said says priced = tt
   priced_pass (Some costs) None says priced = absurd says
   priced_pass (Some costs) (Some t) says priced = ((t, says), ((r, cs, record { text = has.text; has = has.has; said = Some t; says = says; priced = priced }), tt))
 
-  -- where counts are chosen all stages of a build pass
+  -- if counts are chosen, all stages of a build pass
   pub counts_pass : AllPass files (build_stages build)
   counts_pass =
       let accepted = has.allotted.priced.accepted in

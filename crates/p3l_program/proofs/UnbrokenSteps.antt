@@ -9,15 +9,17 @@ use Rattle.p3l_firing.specs.declared.net.Net.{Net}
 use Rattle.p3l_image.specs.declared.image.Image.{Image}
 use Rattle.p3l_image.specs.Image.{ImageBeginsNoOther}
 use Rattle.p3l_image.specs.laws.Image.{written_spells}
+use Rattle.p3l_io.specs.Change.{Change, HasFailed, HasRisen, change}
 use Rattle.p3l_io.specs.Content.{Held}
-use Rattle.p3l_link.specs.Laws.{EveryNetIsCarried}
+use Rattle.p3l_link.specs.Laws.{EveryNetHasInvariants}
 use Rattle.p3l_load.specs.Compiled.{image_of}
 use Rattle.p3l_load.specs.Load.{loaded_of}
-use Rattle.p3l_firing.specs.Carried.{HaveInWords}
+use Rattle.p3l_firing.specs.NetInvariants.{HaveInWords}
+use Rattle.p3l_firing.specs.declared.shot.Shot.{Shot}
+use Rattle.p3l_firing.specs.Cut.{after_run, run_with_earlier}
 use Rattle.p3l_net.specs.Machine.{IsShaped, Seen, state_of}
 use Rattle.p3l_net.specs.Offered.{Follows}
 use Rattle.p3l_net.specs.Shot.{restored, shot_of}
-use Rattle.p3l_net.specs.declared.shot.Shot.{Shot}
 use Rattle.p3l_opts.specs.declared.command.Build.{Build}
 use Rattle.p3l_opts.specs.declared.command.Sched.{Sched}
 use Rattle.p3l_report.specs.declared.stats.Stats.{Stats}
@@ -36,7 +38,6 @@ use Rattle.p3l_run.specs.Start.{IsWithin, Resumption, fresh, uncounted}
 use Rattle.p3l_run.proofs.RunSteps.{wide_append}
 use Rattle.p3l_run.proofs.WriteSteps.{text_more}
 use Rattle.p3l_sched.specs.declared.schedule.Schedule.{Schedule}
-use Rattle.p3l_firing.specs.Cut.{after_run, run_with_earlier}
 use Rattle.p3l_skel.specs.declared.tree.Tree.{Tree}
 use Rattle.p3l_skel.specs.Numbers.{firings}
 use Rattle.p3l_skel.specs.Tree.{node_at}
@@ -51,12 +52,12 @@ use Rattle.p3l_program.specs.SaveState.{EndsSave, snapshot, units_of}
 use Rattle.p3l_program.specs.Snapshot.{IsSoundFor, snapshot_limit}
 use Rattle.p3l_program.specs.Stage.{AllPass, IsRefusedBy, resumable, saved, saved_decoded, saved_loaded, snapshot_stages}
 use Rattle.p3l_program.specs.Unbroken.{AreOneRun, EveryResumedRunIsUnbroken, EverySnapshotIsResumed}
-use Rattle.p3l_program.specs.World.{Change, HasFailed, HasRisen, World}
+use Rattle.p3l_program.specs.World.{World}
 use Rattle.p3l_program.proofs.RestoredSteps.{state_back}
 use Rattle.p3l_program.proofs.SoundSteps.{sound}
 use Rattle.p3l_program.proofs.StageSteps.{passed_all}
 
--- what `save` wrote
+-- the snapshot that `save` wrote
 module _ (w : World) (build : Build) (picks output : List ℕ) (report : Option Stats) (e : EndsSave w build picks output Done report) where
   abbrev pub image : Image
   image = image_of e.has.imaged.r.tree e.counts e.has.imaged.codes build.capacity
@@ -76,21 +77,21 @@ module _ (w : World) (build : Build) (picks output : List ℕ) (report : Option 
   sound_so : IsSoundFor (loaded_of image) e.to.saved.shot
   sound_so = subst (λ (m : Network). IsSoundShot (units_of m) e.counts build.capacity e.to.saved.shot) e.has.imaged.loaded_is e.to.snapshot_is.sound
 
-  network_sound : EveryNetIsCarried → IsSound (network_in (loaded_of image))
-  network_sound carried =
+  network_sound : EveryNetHasInvariants → IsSound (network_in (loaded_of image))
+  network_sound has_invariants =
       let runs = e.has.imaged.image_is.runs in
-      sound carried image.tree _ e.counts build.capacity image.net (firings image.tree e.counts) runs.whole.lawful runs.whole.counted e.has.imaged.room
+      sound has_invariants image.tree _ e.counts build.capacity image.net (firings image.tree e.counts) runs.whole.lawful runs.whole.counted e.has.imaged.room
       (gives_outs (record { tree = image.tree; codes = image.codes })) runs.linked runs.typed refl
 
 -- files that hold what others held, of which no call failed
 abbrev unfailed : Change Held → Change Held
-unfailed files = record { old = files.old; new = files.old; before = 0; now = 0; failed = None }
+unfailed files = let still = record files.old { faults = 0 } in change still still
 
 none_failed : (files : Change Held) → HasRisen (unfailed files) → ⊥
 none_failed files rose = omega arith
 
--- where the stages of a snapshot pass, they refuse it for a fault of reading alone: by what the files held they don't
-only_unread : (files : Change Held) (held : Held) → files.old ≡ Some held → (name : List ℕ) (refused : Refusal) → AllPass files (snapshot_stages name) → IsRefusedBy files (snapshot_stages name) refused →
+-- if the stages of a snapshot pass, they refuse it for a fault of reading alone
+only_unread : (files : Change Held) (held : Held) → files.old.content ≡ Some held → (name : List ℕ) (refused : Refusal) → AllPass files (snapshot_stages name) → IsRefusedBy files (snapshot_stages name) refused →
     (refused ≡ refusal.FileFault name) × HasFailed files name
 only_unread files held reports name (refusal.FileFault named) passed (inl h) = (ap refusal.FileFault h.0, h.1)
 only_unread files held reports name (refusal.FileFault named) passed (inr h) =
@@ -128,7 +129,7 @@ GoesOnUnbroken =
     ≡ after_run (run m.tree leaf m.net (u ++ w) a) (run_with_earlier outcomes (run_from m.tree leaf m.net (with_rest (state_of n []) w) b))
 
 -- a machine that was saved, and a run that goes on from there, of the same tree and net
-module _ (unbroken : GoesOnUnbroken) (leaf : Leaf) (m : Seen) (shaped : IsShaped m) (outcomes : List Outcome) (calm : has_trap outcomes ≡ false) (u w : List (List ℤ)) (a b : List ℕ) where
+module _ (unbroken : GoesOnUnbroken) (leaf : Leaf) (m : Seen) (shaped : IsShaped m) (outcomes : List Outcome) (untrapped : has_trap outcomes ≡ false) (u w : List (List ℤ)) (a b : List ℕ) where
   abbrev IsOne : Tree → Net → Type 0
   IsOne tree net =
       Follows m outcomes w (run tree leaf net (u ++ w) a)
@@ -136,7 +137,7 @@ module _ (unbroken : GoesOnUnbroken) (leaf : Leaf) (m : Seen) (shaped : IsShaped
       ≡ after_run (run tree leaf net (u ++ w) a) (run_with_earlier outcomes (run_from tree leaf net (with_rest (state_of (restored tree net (uncounted (shot_of m))) []) w) b))
 
   one_here : IsOne m.tree m.net
-  one_here follows = unbroken m (restored m.tree m.net (uncounted (shot_of m))) leaf outcomes u w a b follows calm (state_back m shaped)
+  one_here follows = unbroken m (restored m.tree m.net (uncounted (shot_of m))) leaf outcomes u w a b follows untrapped (state_back m shaped)
 
   pub one_run : (tree : Tree) (net : Net) → m.tree ≡ tree → m.net ≡ net → IsOne tree net
   one_run tree net tree_is net_is = subst (λ k. IsOne tree k) net_is (subst (λ t. IsOne t m.net) tree_is one_here)
@@ -214,7 +215,7 @@ one_text held limit name text other a b = (let y = b.holds in cc)
 
 -- `resume` goes on from what `save` wrote
 module _ (begins : SnapshotBeginsNoOther) (begins_image : ImageBeginsNoOther) (w after : World) (build : Build) (picks output name : List ℕ) (report stats : Option Stats) (request : Sched) (reported : Bool) (finish : Finish) (held : Held)
-    (e : EndsSave w build picks output Done report) (r : EndsRun after (continued name) request None reported finish stats) (files_are : after.files.old ≡ Some held) (has : held name ≡ Some e.to.bytes) where
+    (e : EndsSave w build picks output Done report) (r : EndsRun after (continued name) request None reported finish stats) (files_are : after.files.old.content ≡ Some held) (has : held name ≡ Some e.to.bytes) where
   abbrev base : Network
   base = network_in (loaded_of (image w build picks output report e))
 
@@ -238,7 +239,7 @@ module _ (begins : SnapshotBeginsNoOther) (begins_image : ImageBeginsNoOther) (w
       ∙ ap (λ (s : Saved). continued_network (loaded_of there.i) s.shot) saved_is
       ∙ ap (λ i. continued_network (loaded_of i) e.to.saved.shot) image_same
 
-  module _ (laws : (n : Network) → IsSound n → Laws n) (carried : EveryNetIsCarried) (unbroken : GoesOnUnbroken) (later : List (List ℤ)) (may : MayCome r.n r.finishes.close later) where
+  module _ (laws : (n : Network) → IsSound n → Laws n) (has_invariants : EveryNetHasInvariants) (unbroken : GoesOnUnbroken) (later : List (List ℤ)) (may : MayCome r.n r.finishes.close later) where
     abbrev reached_items : List (List ℤ)
     reached_items = e.to.comes.is.reached.items
 
@@ -270,16 +271,16 @@ module _ (begins : SnapshotBeginsNoOther) (begins_image : ImageBeginsNoOther) (w
         subst (λ (shot : Shot). course_under base (reached_items ++ more) (e.to.comes.is.reached.used ++ b)
         ≡ after_run (course_under base (reached_items ++ more) e.to.comes.is.reached.used) (run_with_earlier e.to.comes.is.reached.outcomes (course_under (goes_on_from shot) more b)))
         (sym e.to.comes.is.shot_is)
-        (one_run unbroken base.leaf e.to.comes.is.reached.m e.to.comes.is.shaped e.to.comes.is.reached.outcomes e.to.comes.is.calm reached_items more e.to.comes.is.reached.used b base.tree base.net
+        (one_run unbroken base.leaf e.to.comes.is.reached.m e.to.comes.is.shaped e.to.comes.is.reached.outcomes e.to.comes.is.untrapped reached_items more e.to.comes.is.reached.used b base.tree base.net
         (e.to.comes.is.reached.runs.tree ∙ ap (λ (k : Network). k.tree) e.has.imaged.loaded_is) (e.to.comes.is.reached.runs.net ∙ ap (λ (k : Network). k.net) e.has.imaged.loaded_is) follows_there)
 
     pub one_at : AreOneRun e.n reached_items more e.to.comes.is.reached.used (picks_of r.n r.s more) e.to.comes.is.reached.outcomes r.finishes.outcomes r.ran.stats
     one_at =
-        are_one e.n base r.n (resumption_of (loaded_of (image w build picks output report e)) e.to.saved.shot) e.has.imaged.loaded_is network_is refl (laws base (network_sound w build picks output report e carried))
+        are_one e.n base r.n (resumption_of (loaded_of (image w build picks output report e)) e.to.saved.shot) e.has.imaged.loaded_is network_is refl (laws base (network_sound w build picks output report e has_invariants))
         reached_items more e.to.comes.is.reached.used r.s e.to.comes.is.reached.outcomes r.finishes.outcomes r.ran.stats
         (wide_append (node_at base.tree 0).ins reached_items more wide_first wide_more) (r.finishes.ran later may) (cut_at (picks_of r.n r.s more))
 
-pub unbroken_always : SnapshotBeginsNoOther → ImageBeginsNoOther → ((n : Network) → IsSound n → Laws n) → EveryNetIsCarried → GoesOnUnbroken → EveryResumedRunIsUnbroken
-unbroken_always begins begins_image laws carried unbroken w after build picks output name report stats request reported finish held e r files_are has = record {
-  one = λ later may. one_at begins begins_image w after build picks output name report stats request reported finish held e r files_are has laws carried unbroken later may;
+pub unbroken_always : SnapshotBeginsNoOther → ImageBeginsNoOther → ((n : Network) → IsSound n → Laws n) → EveryNetHasInvariants → GoesOnUnbroken → EveryResumedRunIsUnbroken
+unbroken_always begins begins_image laws has_invariants unbroken w after build picks output name report stats request reported finish held e r files_are has = record {
+  one = λ later may. one_at begins begins_image w after build picks output name report stats request reported finish held e r files_are has laws has_invariants unbroken later may;
 }

@@ -91,7 +91,7 @@ or_more : (units outside : Bool) → outside ≡ true → (units || outside) ≡
 or_more true outside is = refl
 or_more false outside is = is
 
--- what files allow, files and units allow
+-- a cause that files allow is one that files and units allow
 pub wants_more : (units outside : Bool) (v : Verdict) → Wants outside v → Wants (units || outside) v
 wants_more units outside (verdict.Refused refusal) is = tt
 wants_more units outside (verdict.Ended finish stats) is = tt

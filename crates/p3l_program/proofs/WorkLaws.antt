@@ -1,4 +1,4 @@
--- What the answers of each command depend on, by the shape of its work.
+-- Premises of the answers of each command, by the shape of its work.
 use Rattle.p3l_opts.specs.declared.command.Command.{Command}
 use Rattle.p3l_program.specs.Command.{behavior_of, work_of}
 use Rattle.p3l_program.specs.Work.{Work, behavior, check_trace, profile_input, run_generated, run_in_time, run_network, save_file, save_state, write_text}

@@ -24,7 +24,7 @@ pub record IsListed (files : Option Held) (build : Build) (text : List ℕ) : Ty
   pub has : HasNetwork files (built build) network
   pub text_is : text ≡ processes_text network.tree network.net
 
--- what is requested: the advice, or the processes of each node in its place
+-- the text that is requested: the advice, or the processes of each node in its place
 abbrev pub IsRequested : Option Held → Build → (processes : Bool) → List ℕ → Type 0
 IsRequested files build false = IsAdvised files build
 IsRequested files build true = IsListed files build

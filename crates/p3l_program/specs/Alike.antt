@@ -1,4 +1,4 @@
--- What `exec` makes of the images that `compile` writes.
+-- The runs by `exec` of the images that `compile` writes.
 use Rattle.std.specs.Prelude.{◌≡◌, ◌↔◌, ℕ, Bool, List, Option, Some}
 use Rattle.p3l_io.specs.Content.{Held}
 use Rattle.p3l_opts.specs.declared.command.Build.{Build}
@@ -30,8 +30,8 @@ pub record RunsAlike (w : World) (name : List ℕ) (build : Build) (request : Sc
   pub status : (rest : List ℕ) (k : ℕ) → IsRunStatus w (imaged name) request rest k ↔ IsRunStatus w (built build) request rest k
   pub emits : (trace : Option (List ℕ)) (numbers : RunStats) → Emits w (imaged name) request trace numbers ↔ Emits w (built build) request trace numbers
 
--- where files hold a program and the image that was made of it, of `exec` of the image is expected what is expected of `run` of the program
+-- a law of images: if files hold a program and its image, `exec` of the image is expected to do the same as `run` of the program
 abbrev pub EveryImageRunsAsItsProgram : Type 0
 EveryImageRunsAsItsProgram =
-    (w : World) (held : Held) (build : Build) (name bytes : List ℕ) (request : Sched) → w.files.old ≡ Some held →
+    (w : World) (held : Held) (build : Build) (name bytes : List ℕ) (request : Sched) → w.files.old.content ≡ Some held →
     IsImageOf (Some held) build bytes → HasText (Some held) image_limit name bytes → RunsAlike w name build request

@@ -1,6 +1,7 @@
--- What the program answers, writes and says, and why.
+-- Answers of the program, with the text that it writes, its lines and their causes.
 use Rattle.std.specs.Prelude.{◌≡◌, ◌≢◌, ℕ, Bool, List, [], ◌∷◌, ◌++◌, ◌⊎◌, Option, Some, None}
 use Rattle.clap.specs.Words.{Text}
+use Rattle.p3l_io.specs.Change.{Change, HasSameContent, IsStill}
 use Rattle.p3l_io.specs.Content.{Held}
 use Rattle.p3l_opts.specs.declared.command.Command.{Command}
 use Rattle.p3l_opts.specs.Command.{Spells}
@@ -12,7 +13,7 @@ use Rattle.p3l_report.specs.declared.verdict.Refusal.TheVariants as refusal
 use Rattle.p3l_report.specs.declared.verdict.Verdict.{Verdict}
 use Rattle.p3l_report.specs.declared.verdict.Verdict.TheVariants as verdict
 use Rattle.p3l_report.specs.Line.{stats_line}
-use Rattle.p3l_report.specs.Report.{PutsFronts}
+use Rattle.p3l_report.specs.Report.{BeginsToPut, PutsText}
 use Rattle.p3l_report.specs.Verdict.{finish_status, lines_of, refusal_status, reported_line, status_line, status_of}
 use Rattle.p3l_program.specs.Command.{Begins, Ends, IsExpectedOf, IsWhole, Touches, run_of, saved_first, stages_of, written_of}
 use Rattle.p3l_program.specs.Expected.{IsBegun, IsEnd}
@@ -22,7 +23,7 @@ use Rattle.p3l_program.specs.Stage.{IsRefusedBy, Stage, readable}
 use Rattle.p3l_program.specs.File.{IsTooLong}
 use Rattle.p3l_run.specs.declared.end.RunStats.{RunStats}
 use Rattle.p3l_program.specs.Wants.{SavesLong, Wants}
-use Rattle.p3l_program.specs.World.{Change, HasRisen, IsStill, IsUntouched, World}
+use Rattle.p3l_program.specs.World.{IsUntouched, World}
 use Rattle.p3l_program.specs.Origin.{Running}
 
 -- the words spell no command
@@ -35,7 +36,7 @@ pub record IsRequested (words : List Text) (w : World) (v : Verdict) : Type 0 wh
   pub spelled : Spells words command
   pub expected : IsExpectedOf w command v
   pub kept : KeepsFirst w.files (written_of command) (saved_first command) v
-  pub touched : (w.files.new ≡ w.files.old) ⊎ Touches w command
+  pub touched : HasSameContent w.files ⊎ Touches w command
 
 -- they spell none, and the verdict says so
 pub record IsUsage (words : List Text) (w : World) (v : Verdict) : Type 0 where
@@ -48,7 +49,7 @@ pub record IsUsage (words : List Text) (w : World) (v : Verdict) : Type 0 where
 pub record IsUnread (w : World) (v : Verdict) : Type 0 where
   pub verdict_is : v ≡ verdict.NoMemory
   pub untouched : IsUntouched w
-  pub kept : w.files.new ≡ w.files.old
+  pub kept : HasSameContent w.files
 
 -- they spell a command that writes files before its work, and one of them could not be written
 pub record IsUnsaved (words : List Text) (w : World) (v : Verdict) : Type 0 where
@@ -70,11 +71,11 @@ pub record Answers (outside : Bool) (words : List Text) (w : World) (err : Chang
   pub verdict : Verdict
   pub status_is : status ≡ status_of verdict
   pub expected : IsExpected words w verdict
-  pub wants : Wants outside verdict ⊎ SavesLong words w.files.old
-  pub says : (said : List ℕ) → err.old ≡ Some said → (HasRisen err → ⊥) → err.new ≡ Some (said ++ lines_of verdict)
-  pub begins_to_say : (said : List ℕ) → err.old ≡ Some said → PutsFronts said err.new (reported_line verdict) (status_line verdict)
+  pub wants : Wants outside verdict ⊎ SavesLong words w.files.old.content
+  pub says : PutsText err (lines_of verdict)
+  pub begins_to_say : BeginsToPut err (reported_line verdict) (status_line verdict)
 
--- what was written begins what the command that the words spell writes
+-- the text written is a prefix of that of the command that the words spell
 pub record BeginsWork (words : List Text) (w : World) : Type 0 where
   pub command : Command
   pub spelled : Spells words command
@@ -107,7 +108,7 @@ pub record IsRefusedWith (words : List Text) (w : World) (status : ℕ) : Type 0
   pub status_is : refusal_status refused ≡ status
   pub by : ((refused ≡ refusal.Usage) × SpellsNone words) ⊎ IsRefusedAt words w.files refused
   pub untouched : IsUntouched w
-  pub kept : (w.files.new ≡ w.files.old) ⊎ HasSavedFirst words w.files
+  pub kept : HasSameContent w.files ⊎ HasSavedFirst words w.files
 
 -- the command that the words spell came to an end of this status
 pub record IsEndedWith (words : List Text) (w : World) (status : ℕ) : Type 0 where

@@ -1,4 +1,4 @@
--- What a command does: what comes before its work, the files that it writes, and how it ends.
+-- The behavior of a command: the stages before its work, the files that it writes, and its ends.
 use Rattle.std.specs.Prelude.{ℕ, List, Option}
 use Rattle.p3l_report.specs.declared.stats.Stats.{Stats}
 use Rattle.p3l_report.specs.declared.verdict.Finish.{Finish}
@@ -9,13 +9,13 @@ use Rattle.p3l_program.specs.Stage.{Stage}
 use Rattle.p3l_program.specs.World.{World}
 
 pub record Behavior : Type 1 where
-  -- what comes before its work
+  -- the stages before its work
   pub stages : List Stage
   -- the names of the files that it writes
   pub written : List (List ℕ)
   -- the files that it writes before its work, each a name and its bytes
   pub saved_first : List (List ℕ × List ℕ)
-  -- what it runs on the input, if it does
+  -- the network that it runs on the input, if it runs one
   pub run : Option Running
   -- it came to this end, with these numbers to be reported
   pub Ends : World → Finish → Option Stats → Type 0

@@ -1,7 +1,8 @@
 -- THE PROMISE ON WORKER COUNTS ON A PAGE: none that fit are better than those that `explain` writes. It is stated in the terms of the
--- libraries below; of this crate it names the program of a file (`Headline.antt`), `Promises`, and what `World` calls old and new.
+-- libraries below; of this crate it names the program of a file (`Headline.antt`), `Promises`, and `World`, the contents before and after.
 use Rattle.std.specs.Prelude.{◌≡◌, ℕ, ◌≤◌, Bool, List, ◌++◌, Ok, Option, Some, None}
 use Rattle.clap.specs.Words.{Text}
+use Rattle.p3l_io.specs.Change.{Change}
 use Rattle.p3l_io.specs.Content.{Held}
 use Rattle.p3l_skel.specs.declared.tree.Tree.{Tree}
 use Rattle.p3l_skel.specs.Numbers.{Fits, procs}
@@ -17,7 +18,7 @@ use Rattle.p3l_opts.specs.Command as opts
 use Rattle.p3l_report.specs.Status as status
 use Rattle.p3l_program.specs.Headline.{HasOneProgram}
 use Rattle.p3l_program.specs.Top.{Promises}
-use Rattle.p3l_program.specs.World.{Change, World}
+use Rattle.p3l_program.specs.World.{World}
 
 -- THE COSTS of a program's tree: those that the file of this name says, and the standard costs where none is named
 abbrev pub SaysCosts : Held → Option (List ℕ) → Tree → Costs → Type 0
@@ -43,5 +44,5 @@ abbrev pub EveryExplanationIsTheBest : Type 0
 EveryExplanationIsTheBest =
     (outside : Bool) (words : List Text) (w : World) (err : Change (List ℕ)) (k : ℕ) → Promises outside words w err k →
     (build : Build) (cert : Option (List ℕ)) → opts.Spells words (command.Explain build cert) → k ≡ status.done →
-    (held : Held) (bytes taken : List ℕ) → w.files.old ≡ Some held → w.input.old ≡ Some bytes → w.out.old ≡ Some taken →
-    WritesBest held build taken w.out.new
+    (held : Held) (bytes taken : List ℕ) → w.files.old.content ≡ Some held → w.input.old.content ≡ Some bytes → w.output.old.content ≡ Some taken →
+    WritesBest held build taken w.output.new.content

@@ -58,7 +58,7 @@ work_of (command.Resume name schedule reported) = run_network (running (continue
 abbrev pub behavior_of : Command → Behavior
 behavior_of command = behavior (work_of command)
 
--- what comes before a command's work
+-- the stages before a command's work
 abbrev pub stages_of : Command → List Stage
 stages_of command = (behavior_of command).stages
 
@@ -70,7 +70,7 @@ written_of command = (behavior_of command).written
 abbrev pub saved_first : Command → List (List ℕ × List ℕ)
 saved_first command = (behavior_of command).saved_first
 
--- what it runs on the input, if it does
+-- the network that it runs on the input, if it runs one
 abbrev pub run_of : Command → Option Running
 run_of command = (behavior_of command).run
 

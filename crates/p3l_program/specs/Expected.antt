@@ -1,12 +1,13 @@
--- When a verdict is expected: what was written by then, and how the counts of faults went.
+-- Verdicts that are expected: the text written by then, and the counts of faults.
 use Rattle.std.specs.Prelude.{List, Option, ◌⊎◌}
+use Rattle.p3l_io.specs.Change.{HasRisen, HasSameFaults}
 use Rattle.p3l_report.specs.declared.stats.Stats.{Stats}
 use Rattle.p3l_report.specs.declared.verdict.Finish.{Finish}
 use Rattle.p3l_report.specs.declared.verdict.Refusal.{Refusal}
 use Rattle.p3l_report.specs.declared.verdict.Verdict.{Verdict}
 use Rattle.p3l_report.specs.declared.verdict.Verdict.TheVariants as verdict
 use Rattle.p3l_program.specs.Stage.{AllPass, FilesCause, IsRefusedBy, Stage}
-use Rattle.p3l_program.specs.World.{HasRisen, IsCalm, IsUntouched, World}
+use Rattle.p3l_program.specs.World.{IsUntouched, World}
 
 -- a stage refused, and nothing was touched
 pub record IsRefusal (w : World) (stages : List Stage) (refused : Refusal) : Type 0 where
@@ -18,8 +19,8 @@ pub record IsRefusal (w : World) (stages : List Stage) (refused : Refusal) : Typ
 pub record IsEnd (w : World) (stages : List Stage) (Ends : Type 0) : Type 0 where
   pub passed : AllPass w.files stages
   pub ends : Ends
-  pub files : IsCalm w.files
-  pub out : IsCalm w.out
+  pub files : HasSameFaults w.files
+  pub output : HasSameFaults w.output
 
 -- all stages passed, and a prefix was written
 pub record IsBegun (w : World) (stages : List Stage) (Begins : Type 0) : Type 0 where
@@ -28,8 +29,8 @@ pub record IsBegun (w : World) (stages : List Stage) (Begins : Type 0) : Type 0 
 
 -- the output could not be written
 pub record IsPutFault (w : World) : Type 0 where
-  pub files : IsCalm w.files
-  pub out : HasRisen w.out
+  pub files : HasSameFaults w.files
+  pub output : HasRisen w.output
 
 -- writing failed then: of the output, or of a file, by when this much holds
 pub record IsWriteFault (w : World) (stages : List Stage) (Begins Unsaved : Type 0) : Type 0 where

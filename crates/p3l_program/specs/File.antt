@@ -1,4 +1,4 @@
--- What files hold, as far as they report it.
+-- Contents of files, as far as they report them.
 use Rattle.std.specs.Prelude.{◌≡◌, ℕ, ◌<◌, ◌≤◌, List, length, Option, Some, None}
 use Rattle.p3l_ast.specs.declared.position.Pos.{Pos}
 use Rattle.p3l_ast.specs.declared.refusal.Fault.{Fault}
@@ -10,7 +10,7 @@ use Rattle.p3l_io.specs.Content.{Held}
 abbrev pub text_limit : ℕ
 text_limit = 1048576
 
--- where the files report what they hold, these bytes are held under the name
+-- these bytes are held under the name, if the files report what they hold
 abbrev pub Holds : Option Held → List ℕ → List ℕ → Type 0
 Holds None name bytes = Unit {0}
 Holds (Some held) name bytes = held name ≡ Some bytes

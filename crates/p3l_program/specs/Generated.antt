@@ -1,5 +1,6 @@
 -- The command `gen`: a program that is generated with its costs and its items, run in memory.
 use Rattle.std.specs.Prelude.{◌≡◌, ◌≢◌, ℕ, ℤ, ◌*◌, ◌≤◌, List, [], ◌∷◌, ◌++◌, Bool, true, false, Option, Some, None, codes, if◌then◌else◌}
+use Rattle.p3l_io.specs.Change.{Change, HasRisen, HasSameFaults, IsStill}
 use Rattle.p3l_io.specs.Content.{Held}
 use Rattle.std.specs.Fmt.{decimal, signed_decimal}
 use Rattle.p3l_gen.specs.declared.texts.Generated.{Generated}
@@ -14,6 +15,7 @@ use Rattle.p3l_report.specs.declared.verdict.Finish.{Finish}
 use Rattle.p3l_report.specs.declared.verdict.Finish.TheVariants.{Run}
 use Rattle.p3l_report.specs.declared.verdict.Verdict.{Verdict}
 use Rattle.p3l_report.specs.declared.verdict.Verdict.TheVariants as verdict
+use Rattle.p3l_report.specs.Line.{numbers_text}
 use Rattle.p3l_report.specs.Status as status
 use Rattle.p3l_report.specs.Verdict.{end_status}
 use Rattle.p3l_run.specs.declared.end.RunEnd.{RunEnd}
@@ -37,10 +39,10 @@ use Rattle.p3l_program.specs.Load.{IsNotLoaded}
 use Rattle.p3l_program.specs.Saved.{AreSaved, HasOneFailed, KeepsBut, KeepsFirst, names_of}
 use Rattle.p3l_program.specs.Stage.{Stage, text_fitting, text_kept, text_priced}
 use Rattle.p3l_program.specs.Text.{BeginsText}
-use Rattle.p3l_program.specs.World.{Change, HasRisen, IsCalm, IsStill, World, world}
+use Rattle.p3l_program.specs.World.{World, world}
 
--- what is requested: the number of the texts, for this number of processors, with this number of items, under this schedule, and what the names of
--- the files begin with that the texts are saved to, if they are
+-- a request: the number of the texts, the numbers of processors and of items, the schedule, and the beginning of the names of
+-- the files that the texts are saved to, if they are
 pub record Gen : Type 0 where
   pub number : ℕ
   pub processors : ℕ
@@ -77,7 +79,7 @@ IsPicked sched.RoundRobin s = s ≡ schedule.RoundRobin
 IsPicked (sched.Seeded seed) s = s ≡ schedule.Seeded seed
 IsPicked (sched.File name) s = ⊥
 
--- how many tokens a channel holds at most
+-- the most tokens that a channel holds
 abbrev pub gen_capacity : ℕ
 gen_capacity = 4
 
@@ -102,12 +104,7 @@ pub record IsRanUnder (n : Network) (request : Sched) (text : List ℕ) (ran : R
   pub picked : IsPicked request s
   pub on : IsRanOn n s text ran.finish ran.stats ran.sum
 
--- items I, fired F, idle D, bound B
-abbrev pub numbers_text : RunStats → List ℕ
-numbers_text numbers =
-    codes "items " ++ (decimal numbers.items ++ (codes ", fired " ++ (decimal numbers.fired ++ (codes ", idle " ++ (decimal numbers.idle ++ (codes ", bound " ++ decimal numbers.bound))))))
-
--- gen N: items I, fired F, idle D, bound B, service T, used U, sum S
+-- gen N: NUMBERS, service T, used U, sum S
 abbrev pub summary_line : (number : ℕ) → RunStats → (service used : ℕ) → (sum : ℤ) → List ℕ
 summary_line number numbers service used sum =
     codes "gen " ++ (decimal number ++ (codes ": " ++ (numbers_text numbers
@@ -141,7 +138,7 @@ pub record EndsGen (w : World) (g : Gen) (f : Finish) (stats : Option Stats) : T
   pub stats_are : stats ≡ None
   pub text : List ℕ
   pub is : IsGenerated g end text
-  pub put : HasPut w.out.old w.out.new text
+  pub put : HasPut w.output text
   pub input : IsStill w.input
   pub saved : AreSaved w.files (saves_of g)
 
@@ -149,8 +146,8 @@ pub record EndsGen (w : World) (g : Gen) (f : Finish) (stats : Option Stats) : T
 pub record GensWhole (w : World) (g : Gen) (rest taken : List ℕ) : Type 0 where
   pub text : List ℕ
   pub is : IsGenerated g (ends.Stream ending.End) text
-  pub rest_stays : w.input.new ≡ Some rest
-  pub taken_is : w.out.new ≡ Some (taken ++ text)
+  pub rest_stays : w.input.new.content ≡ Some rest
+  pub taken_is : w.output.new.content ≡ Some (taken ++ text)
   pub saved : AreSaved w.files (saves_of g)
 
 -- the command is expected to end with this status, which is never that of a stop
@@ -176,11 +173,11 @@ gen_behavior g = record {
   IsStatusExpected = λ w rest n. IsGenStatus g n;
 }
 
--- how the writing of the text of an end goes
+-- the result of writing the text of an end
 abbrev pub IsLineOf : Change (List ℕ) → RunEnd → List ℕ → Verdict → Type 0
-IsLineOf out f text (verdict.Ended f' stats) = (f' ≡ Run f) × (stats ≡ None) × HasPut out.old out.new text × IsCalm out
-IsLineOf out f text verdict.WriteFault = HasBegun out.old out.new text × HasRisen out
-IsLineOf out f text verdict.NoMemory = HasBegun out.old out.new text
+IsLineOf out f text (verdict.Ended f' stats) = (f' ≡ Run f) × (stats ≡ None) × HasPut out text × HasSameFaults out
+IsLineOf out f text verdict.WriteFault = HasBegun out text × HasRisen out
+IsLineOf out f text verdict.NoMemory = HasBegun out text
 IsLineOf out f text (verdict.Refused refused) = ⊥
 
 -- a program that a text spells, with the costs that another says and the counts that are chosen for it
@@ -196,7 +193,7 @@ pub record LoadsTexts (text said : List ℕ) (processors : ℕ) (loaded : Allott
 
 -- or why there is none, whatever the files are
 abbrev pub AreNotLoaded : (text said : List ℕ) (processors : ℕ) → Verdict → Type 0
-AreNotLoaded text said processors v = (files : Change Held) → IsCalm files → IsNotLoaded files (text_stages text said processors) v
+AreNotLoaded text said processors v = (files : Change Held) → HasSameFaults files → IsNotLoaded files (text_stages text said processors) v
 
 -- the texts are those that are requested
 pub record AreTextsOf (g : Gen) (texts : Generated) : Type 0 where
@@ -207,7 +204,7 @@ pub record AreTextsOf (g : Gen) (texts : Generated) : Type 0 where
 -- a verdict is expected of the running of what is requested, whatever the files are, which hold the texts that are to be saved; the
 -- input is let alone
 abbrev pub IsGenRun : Change (List ℕ) → Gen → Verdict → Type 0
-IsGenRun out g v = (files : Change Held) (input : Change (List ℕ)) → IsCalm files → AreSaved files (saves_of g) → IsStill input →
+IsGenRun out g v = (files : Change Held) (input : Change (List ℕ)) → HasSameFaults files → AreSaved files (saves_of g) → IsStill input →
     IsExpectedWith (world files input out) (gen_stages g) (EndsGen (world files input out) g) (BeginsText (world files input out) (IsGenText g)) ⊥ v
 
 -- a verdict is expected of what is requested, which lets the input alone

@@ -1,11 +1,12 @@
 -- THE FIRST PROMISE ON A PAGE: what `run` writes is what its program means, whatever the schedule. It is stated in the terms of the
--- libraries below; of this crate it names `Promises`, its premise, and what `World` calls old and new.
+-- libraries below; of this crate it names `Promises`, its premise, and `World`, the contents before and after.
 use Rattle.std.specs.Prelude.{◌≡◌, ◌≢◌, ℕ, ℤ, Bool, true, false, List, [], ◌∷◌, ◌++◌, ◌⊎◌, map, take, Ok, Option, Some}
 use Rattle.std.specs.List.{flat_map}
 use Rattle.clap.specs.Words.{Text}
 use Rattle.p3l_base.specs.declared.outcome.Outcome.{Outcome}
 use Rattle.p3l_base.specs.declared.outcome.Outcome.TheVariants.{Value, Trapped}
 use Rattle.p3l_base.specs.declared.outcome.Trap.{Trap}
+use Rattle.p3l_io.specs.Change.{Change}
 use Rattle.p3l_io.specs.Content.{Held}
 use Rattle.p3l_ast.specs.Tree.{ProgramTree}
 use Rattle.p3l_grammar.specs.Grammar.{Spells}
@@ -25,7 +26,7 @@ use Rattle.p3l_opts.specs.declared.command.Sched.{Sched}
 use Rattle.p3l_opts.specs.Command as opts
 use Rattle.p3l_report.specs.Status as status
 use Rattle.p3l_program.specs.Top.{Promises}
-use Rattle.p3l_program.specs.World.{Change, World}
+use Rattle.p3l_program.specs.World.{World}
 
 -- THE PROGRAM of a file: its text spells one program, which keeps all rules and has this tree and these bodies
 pub record HasOneProgram (held : Held) (name : List ℕ) (r : ResolvedTree) : Type 0 where
@@ -82,8 +83,8 @@ abbrev pub EveryRunMeansItsProgram : Type 0
 EveryRunMeansItsProgram =
     (outside : Bool) (words : List Text) (w : World) (err : Change (List ℕ)) (k : ℕ) → Promises outside words w err k →
     (build : Build) (schedule : Sched) (trace : Option (List ℕ)) (stats : Bool) → opts.Spells words (command.Run build schedule trace stats) →
-    (held : Held) (bytes taken : List ℕ) → w.files.old ≡ Some held → w.input.old ≡ Some bytes → w.out.old ≡ Some taken →
-    IsMeant held build.program bytes taken w.out.new k
+    (held : Held) (bytes taken : List ℕ) → w.files.old.content ≡ Some held → w.input.old.content ≡ Some bytes → w.output.old.content ≡ Some taken →
+    IsMeant held build.program bytes taken w.output.new.content k
 
 -- SO RESULTS DON'T DEPEND ON THE SCHEDULE: whatever any run of a file's program on an input writes begins what a run of status 0 writes,
 -- and is all of it with status 0, under any schedules, capacities, costs and numbers of processors

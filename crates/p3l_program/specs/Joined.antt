@@ -1,7 +1,6 @@
 -- Runs on blocks of a stream, whose texts are put together.
 use Rattle.std.specs.Prelude.{◌≡◌, ◌↔◌, ℕ, ℤ, List, [], ◌∷◌, ◌++◌}
 use Rattle.std.specs.List.{AllByRecursion}
-use Rattle.p3l_base.specs.declared.outcome.Outcome.{Outcome}
 use Rattle.p3l_run.specs.Network.{Network, meaning_of, width_of}
 use Rattle.p3l_run.specs.Start.{fresh}
 use Rattle.p3l_run.specs.Sampling.{IsValue}

@@ -1,5 +1,6 @@
--- What is loaded from files, and why nothing is.
+-- Values loaded from files, and the reasons why none is.
 use Rattle.std.specs.Prelude.{◌≡◌, ℕ, ◌≤◌, List, Option, Some, None, ◌⊎◌}
+use Rattle.p3l_io.specs.Change.{Change, HasFailed, HasSameFaults}
 use Rattle.p3l_io.specs.Content.{Held}
 use Rattle.p3l_skel.specs.declared.tree.Tree.{Tree}
 use Rattle.p3l_cost.specs.declared.costs.Costs.{Costs}
@@ -23,13 +24,12 @@ use Rattle.p3l_program.specs.Origin.{Origin}
 use Rattle.p3l_program.specs.Plan.{AreSaid, ComesTo, HasCostText, HaveTexts, IsAllotted, IsCompiled, IsNetworkOf, IsUnsaid, Texts}
 use Rattle.p3l_program.specs.File.{HasText, IsTooLong, text_limit}
 use Rattle.p3l_program.specs.Stage.{FilesCause, IsRefusedBy, Refuses, Stage, readable, AllPass, origin_stages}
-use Rattle.p3l_program.specs.World.{Change, HasFailed, IsCalm}
 
 -- why a file gives no text
 abbrev pub IsUnreadable : Change Held → ℕ → List ℕ → FileRefusal → Type 0
 IsUnreadable files limit name (file.Fault named) = (named ≡ name) × HasFailed files name
-IsUnreadable files limit name (file.TooLong named) = (named ≡ name) × IsTooLong files.old limit name × IsCalm files
-IsUnreadable files limit name file.NoMemory = IsCalm files
+IsUnreadable files limit name (file.TooLong named) = (named ≡ name) × IsTooLong files.old.content limit name × HasSameFaults files
+IsUnreadable files limit name file.NoMemory = HasSameFaults files
 
 -- the verdicts of these
 abbrev pub file_verdict : FileRefusal → Verdict
@@ -40,10 +40,10 @@ file_verdict file.NoMemory = verdict.NoMemory
 -- the stages before a command's work don't pass: one refuses, or memory ran out
 abbrev pub IsNotLoaded : Change Held → List Stage → Verdict → Type 0
 IsNotLoaded files stages (verdict.Refused refused) = IsRefusedBy files stages refused × FilesCause refused files
-IsNotLoaded files stages verdict.NoMemory = IsCalm files
+IsNotLoaded files stages verdict.NoMemory = HasSameFaults files
 IsNotLoaded files stages v = ⊥
 
--- what a text comes to
+-- the program that a text comes to
 pub record AcceptsText (text : List ℕ) (accepted : Accepted) : Type 0 where
   pub r : ResolvedTree
   pub comes : ComesTo text r accepted
@@ -73,15 +73,15 @@ IsNoCosts tree said refused = ⊥
 -- why no costs are loaded
 pub record HasUnsaidCosts (files : Change Held) (name : List ℕ) (tree : Tree) (refused : Refusal) : Type 0 where
   pub said : List ℕ
-  pub has : HasText files.old text_limit name said
+  pub has : HasText files.old.content text_limit name said
   pub no_costs : IsNoCosts tree said refused
-  pub calm : IsCalm files
+  pub same_faults : HasSameFaults files
 
 abbrev pub IsCostless : Change Held → Option (List ℕ) → Tree → Verdict → Type 0
 IsCostless files None tree (verdict.Refused refused) = ⊥
 IsCostless files (Some name) tree (verdict.Refused refused) =
     (Refuses files (readable text_limit name) refused × FilesCause refused files) ⊎ HasUnsaidCosts files name tree refused
-IsCostless files costs tree verdict.NoMemory = IsCalm files
+IsCostless files costs tree verdict.NoMemory = HasSameFaults files
 IsCostless files costs tree v = ⊥
 
 -- no counts of a tree, whose costs are loaded, fit this number of processors
@@ -89,13 +89,13 @@ pub record IsUnfit (files : Change Held) (costs_file : Option (List ℕ)) (tree 
   pub need : ℕ
   pub verdict_is : v ≡ verdict.Refused (refusal.TooFew need)
   pub cs : Costs
-  pub loads : LoadsCosts files.old costs_file tree cs
+  pub loads : LoadsCosts files.old.content costs_file tree cs
   pub short : IsShort tree processors need
-  pub calm : IsCalm files
+  pub same_faults : HasSameFaults files
 
 -- why no counts are chosen for a tree
 abbrev pub IsUnchosen : Change Held → Option (List ℕ) → Tree → (processors : ℕ) → Verdict → Type 0
-IsUnchosen files costs tree processors verdict.NoMemory = IsCalm files
+IsUnchosen files costs tree processors verdict.NoMemory = HasSameFaults files
 IsUnchosen files costs tree processors v = IsCostless files costs tree v ⊎ IsUnfit files costs tree processors v
 
 -- a program with its costs and the counts that are chosen for it
@@ -127,4 +127,4 @@ pub record LoadsNetwork (known : Option Held) (origin : Origin) (n : Network) : 
   pub have : HaveTexts known origin texts
   pub is : IsNetworkOf origin texts n
   pub only : (other : Network) → IsNetworkOf origin texts other → other ≡ n
-  pub passed : (files : Change Held) → files.old ≡ known → AllPass files (origin_stages origin)
+  pub passed : (files : Change Held) → files.old.content ≡ known → AllPass files (origin_stages origin)

@@ -1,5 +1,6 @@
 -- Certificates that are loaded from files, and why none is.
 use Rattle.std.specs.Prelude.{ℕ, List, Option, ◌⊎◌}
+use Rattle.p3l_io.specs.Change.{Change, HasSameFaults}
 use Rattle.p3l_io.specs.Content.{Held}
 use Rattle.p3l_skel.specs.declared.tree.Tree.{Tree}
 use Rattle.p3l_cost.specs.declared.costs.Costs.{Costs}
@@ -16,7 +17,6 @@ use Rattle.p3l_check.specs.Resolving.{ResolvedTree}
 use Rattle.p3l_program.specs.Certified.{HasCert, IsCertOf, IsNoCert, IsRefuted, cert_limit}
 use Rattle.p3l_program.specs.File.{HasText}
 use Rattle.p3l_program.specs.Stage.{FilesCause, Refuses, readable}
-use Rattle.p3l_program.specs.World.{Change, IsCalm}
 use Rattle.p3l_base.specs.Memory.{Refused}
 
 -- a text spells a certificate that holds, so its counts are the best
@@ -43,14 +43,14 @@ IsEvidence tree costs written refused = ⊥
 -- why no certificate is loaded
 pub record HasWrongCert (files : Change Held) (name : List ℕ) (tree : Tree) (costs : Costs) (refused : Refusal) : Type 0 where
   pub written : List ℕ
-  pub held : HasText files.old cert_limit name written
+  pub held : HasText files.old.content cert_limit name written
   pub no_cert : IsEvidence tree costs written refused
-  pub calm : IsCalm files
+  pub same_faults : HasSameFaults files
 
 abbrev pub IsCertless : Change Held → List ℕ → Tree → Costs → Verdict → Type 0
 IsCertless files name tree costs (verdict.Refused refused) =
     (Refuses files (readable cert_limit name) refused × FilesCause refused files) ⊎ HasWrongCert files name tree costs refused
-IsCertless files name tree costs verdict.NoMemory = IsCalm files
+IsCertless files name tree costs verdict.NoMemory = HasSameFaults files
 IsCertless files name tree costs v = ⊥
 
 -- a certificate that holds for a program and its costs, by the files of these names

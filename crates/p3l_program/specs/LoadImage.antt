@@ -1,4 +1,4 @@
--- What is loaded from the image of a file, and why nothing is.
+-- Values loaded from the image of a file, and the reasons why none is.
 use Rattle.std.specs.Prelude.{◌≡◌, ℕ, ◌≤◌, List, Option}
 use Rattle.std.specs.List.{All}
 use Rattle.p3l_skel.specs.Counts.{HasLawfulCounts}
@@ -31,7 +31,7 @@ IsUnloadable bytes (verdict.Refused (refusal.Evidence (evidence.Load why))) = Is
 IsUnloadable bytes verdict.NoMemory = Refused
 IsUnloadable bytes v = ⊥
 
--- what was loaded can be run: its tree and counts are lawful, each `seq` module has its code, and the net is that of the tree
+-- a loaded network can be run: its tree and counts are lawful, each `seq` module has its code, and the net is that of the tree
 pub record IsReadyImage (loaded : Loaded) : Type 0 where
   pub lawful : IsLawfulTree loaded.tree
   pub fit : HasLawfulCounts loaded.tree loaded.counts.list

@@ -1,4 +1,4 @@
--- What is loaded from the snapshot of a file, and why nothing is.
+-- Values loaded from the snapshot of a file, and the reasons why none is.
 use Rattle.std.specs.Prelude.{◌≡◌, ℕ, ◌≤◌, List, Option}
 use Rattle.p3l_image.specs.declared.image.Image.{Image}
 use Rattle.p3l_io.specs.Content.{Held}
@@ -6,7 +6,7 @@ use Rattle.p3l_load.specs.Load.{loaded_of}
 use Rattle.p3l_resume.specs.declared.saved.Saved.{Saved}
 use Rattle.p3l_resume.specs.Saved.{IsSpelling}
 use Rattle.p3l_skel.specs.Numbers.{procs}
-use Rattle.p3l_program.specs.declared.snapshot.Snapshot.{Snapshot}
+use Rattle.p3l_program.specs.declared.snapshot.ResumableNetwork.{ResumableNetwork}
 use Rattle.p3l_program.specs.File.{HasText}
 use Rattle.p3l_program.specs.Image.{IsImage}
 use Rattle.p3l_program.specs.LoadImage.{IsReadyImage}
@@ -19,15 +19,15 @@ pub record ReadsSnapshot (files : Option Held) (name : List ℕ) (saved : Saved)
   pub spelled : IsSpelling saved bytes
   pub only : (other : Saved) → IsSpelling other bytes → other ≡ saved
 
--- what was loaded is ready to be run, and can go on from what was saved
-pub record IsReadySnapshot (snapshot : Snapshot) : Type 0 where
+-- a network with a shot is ready to be run, and its run can be continued from the shot
+pub record IsReadySnapshot (snapshot : ResumableNetwork) : Type 0 where
   pub image : IsReadyImage snapshot.network
   pub sound : IsSoundFor snapshot.network snapshot.shot
   pub few_procs : procs snapshot.network.tree snapshot.network.counts.list 0 ≤ 4096
   pub few_tokens : snapshot.network.cap ≤ 1024
 
 -- the one snapshot that the file of this name has was loaded, with the one image that it has
-pub record LoadsSnapshot (files : Option Held) (name : List ℕ) (snapshot : Snapshot) : Type 0 where
+pub record LoadsSnapshot (files : Option Held) (name : List ℕ) (snapshot : ResumableNetwork) : Type 0 where
   pub i : Image
   pub loaded_is : snapshot.network ≡ loaded_of i
   pub saved : Saved

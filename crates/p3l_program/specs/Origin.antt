@@ -1,4 +1,4 @@
--- What a command runs.
+-- The networks that commands run.
 use Rattle.std.specs.Prelude.{ℕ, Bool, List, Option}
 use Rattle.p3l_opts.specs.declared.command.Build.{Build}
 use Rattle.p3l_opts.specs.declared.command.Sched.{Sched}
@@ -12,7 +12,7 @@ pub data Origin : Type 0 where
   scanned : List ℕ → (segments capacity : ℕ) → Origin
   continued : List ℕ → Origin
 
--- what is run on the input under a schedule, the file that its trace goes to, if there is one, and
+-- a run on the input under a schedule, the file that its trace goes to, if there is one, and
 -- whether its numbers are reported
 pub record Running : Type 0 where
   pub origin : Origin

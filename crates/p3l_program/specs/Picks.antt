@@ -1,14 +1,14 @@
 -- The picks of a run, as a text of which a schedule is made.
 use Rattle.std.specs.Prelude.{◌≡◌, ℕ, List, [], ◌∷◌, ◌++◌, codes, Option, Some, None, Result, Ok}
 use Rattle.std.specs.Fmt.{decimal}
+use Rattle.p3l_io.specs.Change.{Change, IsStill}
 use Rattle.p3l_io.specs.Content.{Held}
 use Rattle.p3l_report.specs.declared.verdict.Verdict.{Verdict}
 use Rattle.p3l_trace.specs.declared.trace.TraceLine.{TraceLine}
 use Rattle.p3l_trace.specs.Agreement.{picks_of}
 use Rattle.p3l_program.specs.Saved.{HasSave, IsSaved}
-use Rattle.p3l_program.specs.World.{Change, IsStill}
 
--- what comes after a pick: a space where others follow, and a line feed after the last
+-- the bytes after a pick: a space where others follow, and a line feed after the last
 abbrev pub mark_before : List ℕ → List ℕ
 mark_before [] = codes "\n"
 mark_before (pick ∷ picks) = codes " "
@@ -23,7 +23,7 @@ abbrev pub ArePicksSaved : Change Held → Option (List ℕ) → List ℕ → Ty
 ArePicksSaved files None picks = Unit {0}
 ArePicksSaved files (Some name) picks = IsSaved files name (picks_text picks)
 
--- how the picks of the lines that were kept go to the file that is named for them
+-- the result of writing the picks of the lines that were kept to the file that is named for them
 abbrev pub IsPicking : Change Held → Option (List ℕ) → Option (List TraceLine) → Result (Unit {0}) Verdict → Type 0
 IsPicking files (Some name) (Some lines) result = HasSave files name (picks_text (picks_of lines)) result
 IsPicking files name lines result = (result ≡ Ok tt) × IsStill files

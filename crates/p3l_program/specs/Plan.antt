@@ -27,7 +27,7 @@ use Rattle.p3l_image.specs.declared.image.Image.{Image}
 use Rattle.p3l_link.specs.Net.{linked_net}
 use Rattle.p3l_load.specs.declared.loaded.Loaded.{Loaded}
 use Rattle.p3l_load.specs.Load.{loaded_of}
-use Rattle.p3l_net.specs.declared.shot.Shot.{Shot}
+use Rattle.p3l_firing.specs.declared.shot.Shot.{Shot}
 use Rattle.p3l_resume.specs.declared.saved.Saved.{Saved}
 use Rattle.p3l_resume_laws.specs.Linked.{ahead_of}
 use Rattle.p3l_resume_laws.specs.Saved.{saved_state}
@@ -82,7 +82,7 @@ pub record IsCompiled (r : ResolvedTree) (accepted : Accepted) : Type 0 where
   pub bodies : AreBodies r.tree r.seqs
   pub codes : AreCodes r.seqs accepted.codes
 
--- what an accepted text comes to, which it does alone
+-- the program that an accepted text comes to, and no other
 pub record ComesTo (text : List ℕ) (r : ResolvedTree) (program : Accepted) : Type 0 where
   pub accepted : IsAccepted text r
   pub only : (other : ResolvedTree) → IsAccepted text other → other ≡ r
@@ -191,8 +191,8 @@ network_of r counts capacity = network r.tree (body_leaf r.tree r.seqs) (linked_
 abbrev pub network_in : Loaded → Network
 network_in loaded = network loaded.tree (leaf (record { tree = loaded.tree; codes = loaded.codes })) loaded.net (firings loaded.tree loaded.counts.list)
 
--- what was saved of a run of what was loaded, with the outcomes to come of the tokens in its net and of the item in its inbox, and how
--- often the net can fire for those tokens at most
+-- a shot of a loaded network, with the outcomes to come of the tokens in its net and of the item in its inbox, and a
+-- bound on the firings of the net for those tokens
 abbrev pub resumption_of : Loaded → Shot → Resumption
 resumption_of loaded shot = record {
   shot = shot;
@@ -211,7 +211,7 @@ scan_network r plan capacity =
     network_named r.tree plan.tree (step_leaf plan.elem (item r.tree (body_leaf r.tree r.seqs) plan.op)) (linked_net plan.tree plan.counts.list capacity)
     (firings plan.tree plan.counts.list)
 
--- what the files that are run have: the text of a program, and of its costs where a file of costs is named; or the bytes of an image or
+-- the texts of the files that are run: of a program, and of its costs if a file of costs is named; or the bytes of an image or
 -- of a snapshot
 pub record Texts : Type 0 where
   pub text : List ℕ

@@ -1,5 +1,6 @@
 -- The traces that runs leave in files.
 use Rattle.std.specs.Prelude.{◌≡◌, ℕ, ℤ, true, List, ◌++◌, Option, Some, None, Result, Ok, OnOk}
+use Rattle.p3l_io.specs.Change.{Change, IsStill}
 use Rattle.p3l_io.specs.Content.{Held}
 use Rattle.p3l_run.specs.declared.end.RunStats.{RunStats}
 use Rattle.p3l_report.specs.declared.verdict.Verdict.{Verdict}
@@ -13,7 +14,6 @@ use Rattle.p3l_trace.specs.Agreement.{Agrees}
 use Rattle.p3l_trace.specs.Agreement as lines
 use Rattle.p3l_trace.specs.Text.{trace_format}
 use Rattle.p3l_program.specs.Saved.{HasSave, IsSaved}
-use Rattle.p3l_program.specs.World.{Change, IsStill}
 
 -- a trace is that of the run on these items under a schedule: its picks are the schedule's, its lines agree with the run, and its
 -- counts are the run's
@@ -34,7 +34,7 @@ pub record HasRecord (files : Change Held) (name : List ℕ) (IsSuch : Traced �
   pub fits : trace_format.fits t ≡ true
   pub saved : IsSaved files name (trace_format.spell t)
 
--- where a file is named for it
+-- the same if a file is named for it
 abbrev pub IsRecorded : Change Held → Option (List ℕ) → (Traced → Type 0) → Type 0
 IsRecorded files None IsSuch = Unit {0}
 IsRecorded files (Some name) IsSuch = HasRecord files name IsSuch
@@ -43,7 +43,7 @@ IsRecorded files (Some name) IsSuch = HasRecord files name IsSuch
 abbrev pub traced_by : List TraceLine → RunStats → Traced
 traced_by lines numbers = record { lines = lines; fired = numbers.fired; idle = numbers.idle }
 
--- how the lines that were kept go to the file that is named for the trace
+-- the result of writing the lines that were kept to the file that is named for the trace
 abbrev pub IsRecording : Change Held → Option (List ℕ) → Option (List TraceLine) → RunStats → Result (Unit {0}) Verdict → Type 0
 IsRecording files (Some name) (Some lines) numbers result =
     HasSave files name (trace_format.spell (traced_by lines numbers)) result × OnOk result (trace_format.fits (traced_by lines numbers) ≡ true)

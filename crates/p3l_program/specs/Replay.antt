@@ -1,5 +1,6 @@
--- What `run` makes of the picks that `time` leaves.
+-- The runs by `run` of the picks that `time` leaves.
 use Rattle.std.specs.Prelude.{◌≡◌, ℕ, Bool, List, Option, Some}
+use Rattle.p3l_io.specs.Change.{HasRisen}
 use Rattle.p3l_io.specs.Content.{Held}
 use Rattle.p3l_opts.specs.declared.command.Build.{Build}
 use Rattle.p3l_opts.specs.declared.command.Sched.TheVariants as sched
@@ -14,7 +15,7 @@ use Rattle.p3l_program.specs.Plan.{HaveTexts}
 use Rattle.p3l_program.specs.Run.{EndsRun}
 use Rattle.p3l_program.specs.Scheduled.{HasPicks, picks_limit}
 use Rattle.p3l_program.specs.Time.{EndsTime}
-use Rattle.p3l_program.specs.World.{HasRisen, World}
+use Rattle.p3l_program.specs.World.{World}
 
 -- a run ends as one in virtual time did: its end, the outcomes that it emitted, of which the text is written, and its numbers are the same
 pub record EndsAlike {w after : World} {build : Build} {name : List ℕ} {finish other_finish : Finish} {report stats : Option Stats} {trace : Option (List ℕ)} {reported : Bool}
@@ -23,14 +24,14 @@ pub record EndsAlike {w after : World} {build : Build} {name : List ℕ} {finish
   pub outcomes_are : r.finishes.outcomes ≡ e.to.runs.finishes.outcomes
   pub numbers_are : r.ran.stats ≡ e.to.ran.stats
 
--- where `time` left its picks in a file that is no longer than such files may be, they are the schedule that `run` reads there; and
--- where `run` of the same words under them reads files that hold the same texts of the program and of its costs, and both took an input that
--- reported the same and didn't fail, it ends alike
+-- the picks that `time` left in a file within the limit are the schedule that `run` reads there; and if
+-- `run` of the same words under them reads files with the same texts of the program and of its costs, and both took an input that
+-- reported the same content and didn't fail, it ends alike
 pub record IsReplayed {w : World} {build : Build} {name : List ℕ} {finish : Finish} {report : Option Stats} (e : EndsTime w build (Some name) finish report) (held : Held) : Type 0 where
   pub reads : HasPicks (Some held) (size_of e.n) name (Recorded e.to.picks)
   pub alike : (after : World) (trace : Option (List ℕ)) (reported : Bool) (other_finish : Finish) (stats : Option Stats) (rest : List ℕ) →
-      (r : EndsRun after (built build) (sched.File name) trace reported other_finish stats) → after.files.old ≡ Some held → HaveTexts (Some held) (built build) e.has.network.texts →
-      w.input.old ≡ Some rest → after.input.old ≡ Some rest → (HasRisen w.input → ⊥) → (HasRisen after.input → ⊥) → EndsAlike e r
+      (r : EndsRun after (built build) (sched.File name) trace reported other_finish stats) → after.files.old.content ≡ Some held → HaveTexts (Some held) (built build) e.has.network.texts →
+      w.input.old.content ≡ Some rest → after.input.old.content ≡ Some rest → (HasRisen w.input → ⊥) → (HasRisen after.input → ⊥) → EndsAlike e r
 
 abbrev pub EveryTimedRunIsReplayed : Type 0
 EveryTimedRunIsReplayed =

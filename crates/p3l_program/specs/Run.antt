@@ -1,6 +1,7 @@
 -- The commands that run a network on the input: of a program, of its scan, of an image, or of a snapshot, from where it was saved.
 use Rattle.std.specs.Prelude.{◌≡◌, ◌≢◌, ℕ, ℤ, ◌*◌, Bool, true, false, nat_le, List, [], ◌++◌, ◌⊎◌, length, take, Ok, Err, Option, Some, None, if◌then◌else◌}
 use Rattle.std.specs.Option.{option_to_list}
+use Rattle.p3l_io.specs.Change.{Change, HasFailed, HasRisen, HasSameContent, HasSameFaults, IsStill}
 use Rattle.p3l_io.specs.Content.{Held}
 use Rattle.p3l_opts.specs.declared.command.Sched.{Sched}
 use Rattle.p3l_opts.specs.declared.command.Sched.TheVariants as sched
@@ -44,7 +45,7 @@ use Rattle.p3l_program.specs.Recorded.{IsRecorded, IsRecording, IsRecordOf, IsRe
 use Rattle.p3l_program.specs.Saved.{KeepsFiles}
 use Rattle.p3l_program.specs.Scheduled.{HasSchedule, picks_limit}
 use Rattle.p3l_program.specs.Stage.{FilesCause, Refuses, readable, run_stages}
-use Rattle.p3l_program.specs.World.{Change, HasFailed, HasRisen, IsCalm, IsStill, World}
+use Rattle.p3l_program.specs.World.{World}
 
 -- the numbers of a run, where they are to be reported
 abbrev pub shown : Bool → Stats → Option Stats
@@ -61,47 +62,47 @@ pub record HasRun (files : Option Held) (origin : Origin) (request : Sched) (n :
   pub network : HasNetwork files origin n
   pub schedule : HasSchedule files (size_of n) request s
 
--- what is run was run to this end, with these numbers, and its trace was written where a file is named for it
+-- a network was run to this end, with these numbers, and its trace was written if a file is named for it
 pub record EndsRun (w : World) (origin : Origin) (request : Sched) (trace : Option (List ℕ)) (reported : Bool) (finish : Finish) (stats : Option Stats) : Type 0 where
   pub n : Network
   pub s : Schedule
-  pub has : HasRun w.files.old origin request n s
+  pub has : HasRun w.files.old.content origin request n s
   pub ran : Ran
   pub finish_is : finish ≡ Run ran.finish
   pub stats_are : stats ≡ shown reported (Scheduled ran.stats)
-  pub finishes : Finishes n s (keeping_for trace) w.input.old w.input.new w.input.before w.input.now w.out.old w.out.new ran
+  pub finishes : Finishes n s (keeping_for trace) w.input w.output ran
   pub recorded : IsRecorded w.files trace (IsRecordOn n s finishes.items finishes.close)
 
 -- it was run to some end, whatever became of its trace
 pub record RunsOver (w : World) (origin : Origin) (request : Sched) : Type 0 where
   pub n : Network
   pub s : Schedule
-  pub has : HasRun w.files.old origin request n s
+  pub has : HasRun w.files.old.content origin request n s
   pub keeping : Keeping
   pub ran : Ran
-  pub finishes : Finishes n s keeping w.input.old w.input.new w.input.before w.input.now w.out.old w.out.new ran
+  pub finishes : Finishes n s keeping w.input w.output ran
 
 -- the file of its trace could not be written, when it was over
 abbrev pub UnsavedRun : World → Origin → Sched → Option (List ℕ) → Type 0
 UnsavedRun w origin request None = ⊥
-UnsavedRun w origin request (Some name) = RunsOver w origin request × IsCalm w.out × HasFailed w.files name
+UnsavedRun w origin request (Some name) = RunsOver w origin request × HasSameFaults w.output × HasFailed w.files name
 
 -- it was run, and a prefix of the text of its meaning was written, and of what the network emits under the schedule
 pub record BeginsRun (w : World) (origin : Origin) (request : Sched) : Type 0 where
   pub n : Network
   pub s : Schedule
-  pub has : HasRun w.files.old origin request n s
-  pub starts : Starts n s w.input.old w.input.new w.input.before w.input.now w.out.old w.out.new
+  pub has : HasRun w.files.old.content origin request n s
+  pub starts : Starts n s w.input w.output
 
 -- over an input and an output that report: the whole input was taken, each of its lines is an item or has no words, the whole
 -- text of the meaning of its items was written, and the trace is that of the run on them
 pub record RunsWhole (w : World) (origin : Origin) (request : Sched) (trace : Option (List ℕ)) (rest taken : List ℕ) : Type 0 where
   pub n : Network
   pub s : Schedule
-  pub has : HasRun w.files.old origin request n s
-  pub input_ended : w.input.new ≡ Some []
+  pub has : HasRun w.files.old.content origin request n s
+  pub input_ended : w.input.new.content ≡ Some []
   pub all_items : (items_of (width_of n) rest).ending ≡ ending.End
-  pub taken_is : w.out.new ≡ Some (taken ++ text_of (meaning_of n (items_of (width_of n) rest).items))
+  pub taken_is : w.output.new.content ≡ Some (taken ++ text_of (meaning_of n (items_of (width_of n) rest).items))
   pub recorded : IsRecorded w.files trace (IsRecordOf n s (items_of (width_of n) rest).items)
 
 -- the text of what the network emits on these items under the schedule was written, and the trace of this run, with these numbers, of
@@ -109,14 +110,14 @@ pub record RunsWhole (w : World) (origin : Origin) (request : Sched) (trace : Op
 pub record Emits (w : World) (origin : Origin) (request : Sched) (trace : Option (List ℕ)) (numbers : RunStats) : Type 0 where
   pub n : Network
   pub s : Schedule
-  pub has : HasRun w.files.old origin request n s
+  pub has : HasRun w.files.old.content origin request n s
   pub items : List (List ℤ)
-  pub put : HasPut w.out.old w.out.new (text_of (course_of n s items).state.emitted)
+  pub put : HasPut w.output (text_of (course_of n s items).state.emitted)
   pub recorded : IsRecorded w.files trace (IsRecordOf n s items)
   pub bounded : IsWithin n.start n.firings numbers.fired numbers.items
   pub bound_is : numbers.bound ≡ numbers.items * n.firings
 
--- how the taking of an input stops where no fault comes: at its end, or at the limit
+-- the cutoff of an input without a fault: at its end, or at the limit
 abbrev pub stop_of : List ℕ → Cutoff
 stop_of rest = if nat_le input_limit (length rest) then stop.Limit else stop.End
 
@@ -132,11 +133,11 @@ status_with n s seen = end_status (finish_of n (course_of n s seen.items) seen.e
 abbrev pub run_status : Network → Schedule → List ℕ → ℕ
 run_status n s rest = status_with n s (seen_of (width_of n) rest)
 
--- what is run is expected to end with this status, which is that of a stop only where all picks of a file were made
+-- a run is expected to end with this status, which is that of a stop only if all picks of a file were made
 pub record IsRunStatus (w : World) (origin : Origin) (request : Sched) (rest : List ℕ) (k : ℕ) : Type 0 where
   pub n : Network
   pub s : Schedule
-  pub has : HasRun w.files.old origin request n s
+  pub has : HasRun w.files.old.content origin request n s
   pub status_is : k ≡ run_status n s rest
   pub stops : k ≡ status.stopped → s ≡ schedule.Recorded (picks_of n s (seen_of (width_of n) rest).items)
 
@@ -145,13 +146,13 @@ pub record IsRunStatus (w : World) (origin : Origin) (request : Sched) (rest : L
 pub record StopsRun (w : World) (origin : Origin) (request : Sched) : Type 0 where
   pub n : Network
   pub s : Schedule
-  pub has : HasRun w.files.old origin request n s
+  pub has : HasRun w.files.old.content origin request n s
   pub name : List ℕ
   pub by_file : request ≡ sched.File name
   pub stream : Seen
   pub items : List (List ℤ)
   pub close : Option Ending
-  pub gives : Gives (width_of n) w.input.old w.input.new w.input.before w.input.now stream items (closed_so close)
+  pub gives : Gives (width_of n) w.input stream items (closed_so close)
   pub all_made : s ≡ schedule.Recorded (picks_of n s items)
   pub still : goes_on n (course_of n s items) ≡ true
 
@@ -181,37 +182,37 @@ IsBadPicks text count refused = ⊥
 
 pub record HasBadPicks (files : Change Held) (count : ℕ) (name : List ℕ) (refused : Refusal) : Type 0 where
   pub text : List ℕ
-  pub has : HasText files.old picks_limit name text
+  pub has : HasText files.old.content picks_limit name text
   pub bad : IsBadPicks text count refused
-  pub calm : IsCalm files
+  pub same_faults : HasSameFaults files
 
 -- why there is no schedule
 abbrev pub HasNoSchedule : Change Held → ℕ → Sched → Verdict → Type 0
 HasNoSchedule files count (sched.File name) (verdict.Refused refused) =
     (Refuses files (readable picks_limit name) refused × FilesCause refused files) ⊎ HasBadPicks files count name refused
-HasNoSchedule files count (sched.File name) verdict.NoMemory = IsCalm files
+HasNoSchedule files count (sched.File name) verdict.NoMemory = HasSameFaults files
 HasNoSchedule files count request v = ⊥
 
 -- a network was run under the schedule that is requested, to this end, and its trace was written
 pub record IsRunTo (n : Network) (files : Change Held) (input out : Change (List ℕ)) (request : Sched) (trace : Option (List ℕ)) (reported : Bool) (finish : Finish) (stats : Option Stats) : Type 0 where
   pub s : Schedule
-  pub schedule : HasSchedule files.old (size_of n) request s
+  pub schedule : HasSchedule files.old.content (size_of n) request s
   pub ran : Ran
   pub finish_is : finish ≡ Run ran.finish
   pub stats_are : stats ≡ shown reported (Scheduled ran.stats)
-  pub finishes : Finishes n s (keeping_for trace) input.old input.new input.before input.now out.old out.new ran
+  pub finishes : Finishes n s (keeping_for trace) input out ran
   pub recorded : IsRecorded files trace (IsRecordOn n s finishes.items finishes.close)
-  pub files_calm : IsCalm files
-  pub out_calm : IsCalm out
+  pub same_file_faults : HasSameFaults files
+  pub same_output_faults : HasSameFaults out
 
 -- or to some end
 pub record IsRunOver (n : Network) (files : Change Held) (input out : Change (List ℕ)) (request : Sched) : Type 0 where
   pub s : Schedule
-  pub schedule : HasSchedule files.old (size_of n) request s
+  pub schedule : HasSchedule files.old.content (size_of n) request s
   pub keeping : Keeping
   pub ran : Ran
-  pub finishes : Finishes n s keeping input.old input.new input.before input.now out.old out.new ran
-  pub out_calm : IsCalm out
+  pub finishes : Finishes n s keeping input out ran
+  pub same_output_faults : HasSameFaults out
 
 -- the file of its trace could not be written, when it was over
 abbrev pub IsUnsavedRun : Network → Change Held → Change (List ℕ) → Change (List ℕ) → Sched → Option (List ℕ) → Type 0
@@ -221,28 +222,28 @@ IsUnsavedRun n files input out request (Some name) = IsRunOver n files input out
 -- or a prefix of the text of its meaning was written
 pub record IsRunSome (n : Network) (files : Change Held) (input out : Change (List ℕ)) (request : Sched) : Type 0 where
   pub s : Schedule
-  pub schedule : HasSchedule files.old (size_of n) request s
-  pub starts : Starts n s input.old input.new input.before input.now out.old out.new
-  pub files_calm : IsCalm files
+  pub schedule : HasSchedule files.old.content (size_of n) request s
+  pub starts : Starts n s input out
+  pub same_file_faults : HasSameFaults files
 
 -- or nothing was touched
 pub record IsRunNot (files : Change Held) (input out : Change (List ℕ)) : Type 0 where
   pub input_still : IsStill input
-  pub out_still : IsStill out
+  pub output_still : IsStill out
 
--- how a run that came to its end is reported, once its trace was written where a file is named for it
+-- the report of a run that came to its end, after its trace was written if a file is named for it
 abbrev pub IsClosed : Change Held → Ran → Option (List ℕ) → Bool → Verdict → Type 0
 IsClosed files ran trace reported (verdict.Ended finish stats) = (finish ≡ Run ran.finish) × (stats ≡ shown reported (Scheduled ran.stats)) × IsRecording files trace ran.lines ran.stats (Ok tt)
 IsClosed files ran trace reported v = IsRecording files trace ran.lines ran.stats (Err v)
 
--- how the run of a network under the schedule that is requested ends
+-- the end of the run of a network under the schedule that is requested
 abbrev pub IsRunOf : Network → Change Held → Change (List ℕ) → Change (List ℕ) → Sched → Option (List ℕ) → Bool → Verdict → Type 0
 IsRunOf n files input out request trace reported (verdict.Refused refused) = HasNoSchedule files (size_of n) request (verdict.Refused refused) × IsRunNot files input out
 IsRunOf n files input out request trace reported (verdict.Ended finish stats) = IsRunTo n files input out request trace reported finish stats
 IsRunOf n files input out request trace reported verdict.WriteFault = (IsRunSome n files input out request × HasRisen out) ⊎ IsUnsavedRun n files input out request trace
 IsRunOf n files input out request trace reported verdict.NoMemory = IsRunNot files input out ⊎ IsRunSome n files input out request
 
--- which files it changes: that of the trace alone, when it is over
+-- the files that it changes: that of the trace alone, when it is over
 pub record KeepsRun (n : Network) (files : Change Held) (input out : Change (List ℕ)) (request : Sched) (trace : Option (List ℕ)) (v : Verdict) : Type 0 where
   pub kept : KeepsFiles files (option_to_list trace) v
-  pub over : (files.new ≡ files.old) ⊎ IsRunOver n files input out request
+  pub over : HasSameContent files ⊎ IsRunOver n files input out request

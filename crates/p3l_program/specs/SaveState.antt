@@ -6,17 +6,18 @@ use Rattle.p3l_cost.specs.declared.costs.Costs.{Costs}
 use Rattle.p3l_check.specs.Resolving.{ResolvedTree}
 use Rattle.p3l_firing.specs.Token.{has_trap}
 use Rattle.p3l_firing.specs.Typed.{IsTyped}
+use Rattle.p3l_io.specs.Change.{Change, HasFailed, HasRisen, HasSameContent, HasSameFaults, IsStill}
 use Rattle.p3l_io.specs.Content.{Held}
 use Rattle.p3l_link.specs.Net.{linked_net}
 use Rattle.p3l_code.specs.declared.safe.SafeCode.{SafeCode}
 use Rattle.p3l_image.specs.Image.{image_text}
 use Rattle.p3l_load.specs.Compiled.{IsImageText, image_of}
 use Rattle.p3l_load.specs.Load.{loaded_of}
+use Rattle.p3l_firing.specs.Outcomes.{IsPrefixOf}
+use Rattle.p3l_firing.specs.declared.shot.Shot.{Shot}
 use Rattle.p3l_net.specs.Machine.{Seen}
 use Rattle.p3l_net.specs.Offered.{Follows}
-use Rattle.p3l_firing.specs.Outcomes.{IsPrefixOf}
 use Rattle.p3l_net.specs.Shot.{shot_of}
-use Rattle.p3l_net.specs.declared.shot.Shot.{Shot}
 use Rattle.p3l_opts.specs.declared.command.Build.{Build}
 use Rattle.p3l_opts.specs.declared.command.Sched.TheVariants as sched
 use Rattle.p3l_report.specs.declared.stats.Stats.{Stats}
@@ -60,9 +61,9 @@ use Rattle.p3l_program.specs.Run.{HasNoSchedule, IsRunNot, seen_of}
 use Rattle.p3l_program.specs.Saved.{HasSave, IsSaved, KeepsFiles}
 use Rattle.p3l_program.specs.Scheduled.{HasPicks}
 use Rattle.p3l_program.specs.Stage.{Stage, build_stages, schedule_stages}
-use Rattle.p3l_program.specs.World.{Change, HasFailed, HasRisen, IsCalm, IsStill, World}
+use Rattle.p3l_program.specs.World.{World}
 
--- what a network runs on: its tree, and what its `seq` modules make of words
+-- the units of a network: its tree, and the outcomes of its `seq` modules on words
 abbrev pub units_of : Network → Units
 units_of n = record { tree = n.tree; leaf = n.leaf }
 
@@ -97,9 +98,9 @@ pub record IsSnapshot (n : Network) (counts : List ℕ) (capacity : ℕ) (shot :
   pub fits : CanBeWritten (snapshot shot image)
   pub bytes_are : bytes ≡ saved_text (snapshot shot image)
 
--- what a run emitted that came so far begins the meaning of the items that the stream gave; and where the stream ended, all of them
+-- the outcomes of a run so far are a prefix of the meaning of the items that the stream gave; and if the stream ended, all of them
 -- were sent
-pub record IsMeant (n : Network) (picks : List ℕ) (input out : Change (List ℕ)) (reached : Reaches n picks input.old input.new input.before input.now out.old out.new) : Type 0 where
+pub record IsMeant (n : Network) (picks : List ℕ) (input out : Change (List ℕ)) (reached : Reaches n picks input out) : Type 0 where
   pub begins : IsPrefixOf reached.outcomes (meaning_of n reached.items)
   pub sent : (e : Ending) → reached.close ≡ Some e → (course_under n reached.items reached.used).state.sent ≡ length reached.items
 
@@ -108,7 +109,7 @@ pub record IsMeant (n : Network) (picks : List ℕ) (input out : Change (List �
 -- A NETWORK WAS RUN TO A CHECKPOINT: the text of what it emits under the picks that were used, on the items that were offered, was
 -- written, and its state is to be saved
 pub record ComesTo (n : Network) (picks : List ℕ) (input out : Change (List ℕ)) (saved : Checkpoint) : Type 0 where
-  pub is : checkpoint.IsSaved n picks input.old input.new input.before input.now out.old out.new saved
+  pub is : checkpoint.IsSaved n picks input out saved
   pub meant : IsMeant n picks input out is.reached
 
 -- and the file of this name has a snapshot of it, with the bytes of this image; its numbers are reported
@@ -123,26 +124,26 @@ pub record SavesState (n : Network) (counts : List ℕ) (capacity : ℕ) (image 
 -- the stream ended so, which is not its end, in place of an item for a pick; nothing is saved
 pub record StopsAt (n : Network) (picks : List ℕ) (input out : Change (List ℕ)) (report : Option Stats) (e : Ending) : Type 0 where
   pub report_is : report ≡ None
-  pub is : IsCutOff n picks input.old input.new input.before input.now out.old out.new e
+  pub is : IsCutOff n picks input out e
   pub meant : IsMeant n picks input out is.reached
 
 -- a trap was emitted, so that a run ends so; nothing is saved
 pub record TrapsAt (n : Network) (picks : List ℕ) (input out : Change (List ℕ)) (report : Option Stats) (f : RunEnd) : Type 0 where
   pub report_is : report ≡ None
-  pub is : IsTrapped n picks input.old input.new input.before input.now out.old out.new f
+  pub is : IsTrapped n picks input out f
   pub meant : IsMeant n picks input out is.reached
 
--- how it ends; without a checkpoint no file is written
+-- the end of such a run; without a checkpoint no file is written
 abbrev pub SavesTo : Network → (counts : List ℕ) → (capacity : ℕ) → (image picks : List ℕ) → Change Held → Change (List ℕ) → Change (List ℕ) → (name : List ℕ) → Option Stats → Finish → Type 0
 SavesTo n counts capacity image picks files input out name report finish.Done = SavesState n counts capacity image picks files input out name report
-SavesTo n counts capacity image picks files input out name report (finish.Run (end.Stream e)) = StopsAt n picks input out report e × (files.new ≡ files.old)
-SavesTo n counts capacity image picks files input out name report (finish.Run (end.Trapped item kind home)) = TrapsAt n picks input out report (end.Trapped item kind home) × (files.new ≡ files.old)
+SavesTo n counts capacity image picks files input out name report (finish.Run (end.Stream e)) = StopsAt n picks input out report e × HasSameContent files
+SavesTo n counts capacity image picks files input out name report (finish.Run (end.Trapped item kind home)) = TrapsAt n picks input out report (end.Trapped item kind home) × HasSameContent files
 SavesTo n counts capacity image picks files input out name report f = ⊥
 
 -- or a prefix of the text of the meaning was written, and of what the network emits under some of the picks
 pub record IsSaveBegun (n : Network) (picks : List ℕ) (input out : Change (List ℕ)) : Type 0 where
-  pub breaks : Breaks n picks input.old input.new input.before input.now out.old out.new
-  pub begun : HasBegun out.old out.new (text_of (meaning_of n breaks.items))
+  pub breaks : Breaks n picks input out
+  pub begun : HasBegun out (text_of (meaning_of n breaks.items))
 
 -- ---- what the command does
 
@@ -152,8 +153,8 @@ pub record EndsSave (w : World) (build : Build) (name output : List ℕ) (f : Fi
   pub counts : List ℕ
   pub image : List ℕ
   pub picks : List ℕ
-  pub has : HasPicked w.files.old build name n counts image picks
-  pub to : SavesTo n counts build.capacity image picks w.files w.input w.out output report f
+  pub has : HasPicked w.files.old.content build name n counts image picks
+  pub to : SavesTo n counts build.capacity image picks w.files w.input w.output output report f
 
 -- it came to its checkpoint, whatever became of the snapshot
 pub record SavesOver (w : World) (build : Build) (name : List ℕ) : Type 0 where
@@ -161,9 +162,9 @@ pub record SavesOver (w : World) (build : Build) (name : List ℕ) : Type 0 wher
   pub counts : List ℕ
   pub image : List ℕ
   pub picks : List ℕ
-  pub has : HasPicked w.files.old build name n counts image picks
+  pub has : HasPicked w.files.old.content build name n counts image picks
   pub saved : Checkpoint
-  pub comes : ComesTo n picks w.input w.out saved
+  pub comes : ComesTo n picks w.input w.output saved
 
 -- or it was begun
 pub record BeginsSave (w : World) (build : Build) (name : List ℕ) : Type 0 where
@@ -171,15 +172,15 @@ pub record BeginsSave (w : World) (build : Build) (name : List ℕ) : Type 0 whe
   pub counts : List ℕ
   pub image : List ℕ
   pub picks : List ℕ
-  pub has : HasPicked w.files.old build name n counts image picks
-  pub begun : IsSaveBegun n picks w.input w.out
+  pub has : HasPicked w.files.old.content build name n counts image picks
+  pub begun : IsSaveBegun n picks w.input w.output
 
 -- the file of the snapshot could not be written, when the checkpoint was reached
 abbrev pub UnsavedState : World → Build → (name output : List ℕ) → Type 0
-UnsavedState w build name output = SavesOver w build name × IsCalm w.out × HasFailed w.files output
+UnsavedState w build name output = SavesOver w build name × HasSameFaults w.output × HasFailed w.files output
 
--- how far the picks of a file are made on these items: they are those used and then the others. No trap was emitted before the last
--- of those used, and some item was not sent yet; and where no trap was emitted and others are left, all items were sent
+-- the picks of a file as far as they are made on these items: those used, and then the others. No trap was emitted before the last
+-- of those used, and some item was not sent yet; and if no trap was emitted and others are left, all items were sent
 pub record IsUsed (n : Network) (items : List (List ℤ)) (picks used unused : List ℕ) : Type 0 where
   pub whole : used ++ unused ≡ picks
   pub untrapped : (front : List ℕ) (p : ℕ) → used ≡ front ++ p ∷ [] → has_trap (course_under n items front).state.emitted ≡ false
@@ -200,13 +201,13 @@ pub record SavesWhole (w : World) (build : Build) (name output rest taken : List
   pub counts : List ℕ
   pub image : List ℕ
   pub picks : List ℕ
-  pub has : HasPicked w.files.old build name n counts image picks
+  pub has : HasPicked w.files.old.content build name n counts image picks
   pub used : List ℕ
   pub unused : List ℕ
   pub is_used : IsUsed n (items_of (width_of n) rest).items picks used unused
-  pub calm : has_trap (course_under n (items_of (width_of n) rest).items used).state.emitted ≡ false
+  pub untrapped : has_trap (course_under n (items_of (width_of n) rest).items used).state.emitted ≡ false
   pub ended : unused ≢ [] → (items_of (width_of n) rest).ending ≡ ending.End
-  pub taken_is : w.out.new ≡ Some (taken ++ text_of (course_under n (items_of (width_of n) rest).items used).state.emitted)
+  pub taken_is : w.output.new.content ≡ Some (taken ++ text_of (course_under n (items_of (width_of n) rest).items used).state.emitted)
   pub offered : List (List ℤ)
   pub later : List (List ℤ)
   pub items_are : (items_of (width_of n) rest).items ≡ offered ++ later
@@ -216,7 +217,7 @@ pub record SavesWhole (w : World) (build : Build) (name output rest taken : List
   pub snapshot_is : IsSnapshot n counts build.capacity shot image bytes
   pub stands : IsSaved w.files output bytes
 
--- how a run ends without a trap that leaves these picks unused, on a stream that ends so
+-- the status of a run without a trap that leaves these picks unused, on a stream that ends so
 abbrev pub unused_status : List ℕ → Ending → ℕ
 unused_status [] e = status.done
 unused_status (p ∷ picks) e = ending_status e
@@ -233,13 +234,13 @@ pub record IsSaveStatus (w : World) (build : Build) (name rest : List ℕ) (k : 
   pub counts : List ℕ
   pub image : List ℕ
   pub picks : List ℕ
-  pub has : HasPicked w.files.old build name n counts image picks
+  pub has : HasPicked w.files.old.content build name n counts image picks
   pub used : List ℕ
   pub unused : List ℕ
   pub is_used : IsUsed n (seen_of (width_of n) rest).items picks used unused
   pub status_is : k ≡ save_status n used unused (seen_of (width_of n) rest)
 
--- what is run is built, and the file of picks has picks for it
+-- the stages of `save`: the program is built, and the file of picks has picks for it
 abbrev pub save_stages : Build → List ℕ → List Stage
 save_stages build name = build_stages build ++ schedule_stages (built build) (sched.File name)
 
@@ -264,7 +265,7 @@ IsSaveExpected w build name output v = IsExpectedWith w (save_stages build name)
 
 -- ---- what its functions do
 
--- what was allotted to a program is linked, with the bytes of its image
+-- the network of an allotted program, linked, with the bytes of its image
 pub record IsImagedAs (loaded : Allotted) (capacity : ℕ) (imaged : Imaged) : Type 0 where
   pub network_is : imaged.network ≡ record {
     cap = capacity;
@@ -301,13 +302,13 @@ pub record LoadsImaged (files : Option Held) (build : Build) (imaged : Imaged) :
 -- a network was run under the picks of a file, to a checkpoint
 pub record IsReached (n : Network) (files : Change Held) (input out : Change (List ℕ)) (name : List ℕ) (saved : Checkpoint) : Type 0 where
   pub picks : List ℕ
-  pub picks_are : HasPicks files.old (size_of n) name (schedule.Recorded picks)
+  pub picks_are : HasPicks files.old.content (size_of n) name (schedule.Recorded picks)
   pub comes : ComesTo n picks input out saved
 
 -- or it was begun
 pub record IsSaveSome (n : Network) (files : Change Held) (input out : Change (List ℕ)) (name : List ℕ) : Type 0 where
   pub picks : List ℕ
-  pub picks_are : HasPicks files.old (size_of n) name (schedule.Recorded picks)
+  pub picks_are : HasPicks files.old.content (size_of n) name (schedule.Recorded picks)
   pub begun : IsSaveBegun n picks input out
 
 -- or it came to another end
@@ -318,14 +319,14 @@ EndsEarly n picks input out f = ⊥
 
 pub record IsEndedEarly (n : Network) (files : Change Held) (input out : Change (List ℕ)) (name : List ℕ) (f : Finish) : Type 0 where
   pub picks : List ℕ
-  pub picks_are : HasPicks files.old (size_of n) name (schedule.Recorded picks)
+  pub picks_are : HasPicks files.old.content (size_of n) name (schedule.Recorded picks)
   pub ends : EndsEarly n picks input out f
 
 -- why it came to no checkpoint
 abbrev pub IsUnreached : Network → Change Held → Change (List ℕ) → Change (List ℕ) → List ℕ → Verdict → Type 0
 IsUnreached n files input out name (verdict.Refused refused) = HasNoSchedule files (size_of n) (sched.File name) (verdict.Refused refused) × IsRunNot files input out
-IsUnreached n files input out name (verdict.Ended f report) = (report ≡ None) × IsEndedEarly n files input out name f × IsCalm files × IsCalm out
-IsUnreached n files input out name verdict.WriteFault = IsSaveSome n files input out name × IsCalm files × HasRisen out
+IsUnreached n files input out name (verdict.Ended f report) = (report ≡ None) × IsEndedEarly n files input out name f × HasSameFaults files × HasSameFaults out
+IsUnreached n files input out name verdict.WriteFault = IsSaveSome n files input out name × HasSameFaults files × HasRisen out
 IsUnreached n files input out name verdict.NoMemory = IsRunNot files input out ⊎ IsSaveSome n files input out name
 
 -- a shot fits some linked net
@@ -338,7 +339,7 @@ pub record FitsSome (shot : Shot) : Type 0 where
   pub small : capacity ≤ 1024
   pub fits : FitsLinked tree counts capacity shot
 
--- how the snapshot of a checkpoint goes to its file
+-- the result of writing the snapshot of a checkpoint to its file
 abbrev pub IsWriting : Change Held → Checkpoint → (image name : List ℕ) → Verdict → Type 0
 IsWriting files saved image name (verdict.Ended f report) =
     (f ≡ finish.Done) × (report ≡ Some (stats.Saved saved.items saved.picks)) × CanBeWritten (snapshot saved.shot image) × HasSave files name (saved_text (snapshot saved.shot image)) (Ok tt)
@@ -348,25 +349,25 @@ IsWriting files saved image name v = HasSave files name (saved_text (snapshot sa
 -- a network was run under the picks of a file, to this end
 pub record IsSavedTo (n : Network) (counts : List ℕ) (capacity : ℕ) (image : List ℕ) (files : Change Held) (input out : Change (List ℕ)) (name output : List ℕ) (f : Finish) (report : Option Stats) : Type 0 where
   pub picks : List ℕ
-  pub picks_are : HasPicks files.old (size_of n) name (schedule.Recorded picks)
+  pub picks_are : HasPicks files.old.content (size_of n) name (schedule.Recorded picks)
   pub to : SavesTo n counts capacity image picks files input out output report f
-  pub files_calm : IsCalm files
-  pub out_calm : IsCalm out
+  pub same_file_faults : HasSameFaults files
+  pub same_output_faults : HasSameFaults out
 
 -- it came to a checkpoint, whatever became of the snapshot
 pub record IsSaveOver (n : Network) (files : Change Held) (input out : Change (List ℕ)) (name : List ℕ) : Type 0 where
   pub saved : Checkpoint
   pub reached : IsReached n files input out name saved
 
--- how the run of a network to a checkpoint ends
+-- the end of the run of a network to a checkpoint
 abbrev pub IsSaveOf : Network → (counts : List ℕ) → (capacity : ℕ) → (image : List ℕ) → Change Held → Change (List ℕ) → Change (List ℕ) → (name output : List ℕ) → Verdict → Type 0
 IsSaveOf n counts capacity image files input out name output (verdict.Refused refused) = HasNoSchedule files (size_of n) (sched.File name) (verdict.Refused refused) × IsRunNot files input out
 IsSaveOf n counts capacity image files input out name output (verdict.Ended f report) = IsSavedTo n counts capacity image files input out name output f report
 IsSaveOf n counts capacity image files input out name output verdict.WriteFault =
-    (IsSaveSome n files input out name × IsCalm files × HasRisen out) ⊎ (IsSaveOver n files input out name × IsCalm out × HasFailed files output)
+    (IsSaveSome n files input out name × HasSameFaults files × HasRisen out) ⊎ (IsSaveOver n files input out name × HasSameFaults out × HasFailed files output)
 IsSaveOf n counts capacity image files input out name output verdict.NoMemory = IsRunNot files input out ⊎ IsSaveSome n files input out name
 
--- which files it changes: that of the snapshot alone, when it came to its checkpoint
+-- the files that it changes: that of the snapshot alone, when it came to its checkpoint
 pub record KeepsSave (n : Network) (files : Change Held) (input out : Change (List ℕ)) (name output : List ℕ) (v : Verdict) : Type 0 where
   pub kept : KeepsFiles files (output ∷ []) v
-  pub over : (files.new ≡ files.old) ⊎ IsSaveOver n files input out name
+  pub over : HasSameContent files ⊎ IsSaveOver n files input out name

@@ -1,5 +1,6 @@
 -- Files that a command writes.
 use Rattle.std.specs.Prelude.{◌≡◌, ◌≢◌, ℕ, List, [], ◌∷◌, ◌⊎◌, map, Option, Some, None, Result, Ok, Err}
+use Rattle.p3l_io.specs.Change.{Change, HasFailed, HasSameContent, HasSameFaults, IsStill}
 use Rattle.p3l_io.specs.Content.{Held}
 use Rattle.p3l_report.specs.declared.stats.Stats.{Stats}
 use Rattle.p3l_report.specs.declared.verdict.Finish.{Finish}
@@ -10,7 +11,7 @@ use Rattle.p3l_program.specs.Behavior.{Behavior}
 use Rattle.p3l_program.specs.Expected.{IsExpectedWith}
 use Rattle.p3l_program.specs.Stage.{Stage}
 use Rattle.p3l_program.specs.Text.{BeginsText, EndsText, IsNothing, WritesWhole}
-use Rattle.p3l_program.specs.World.{Change, HasFailed, IsCalm, IsStill, World, world}
+use Rattle.p3l_program.specs.World.{World, world}
 
 -- a name is none of these
 abbrev pub IsOther : List ℕ → List (List ℕ) → Type 0
@@ -34,12 +35,12 @@ HoldsBut old None names = ⊥
 HoldsBut old (Some new) names = (other : List ℕ) → IsOther other names → new other ≡ old other
 
 abbrev pub KeepsBut : Change Held → List (List ℕ) → Type 0
-KeepsBut files [] = files.new ≡ files.old
-KeepsBut files (name ∷ names) = (held : Held) → files.old ≡ Some held → HoldsBut held files.new (name ∷ names)
+KeepsBut files [] = HasSameContent files
+KeepsBut files (name ∷ names) = (held : Held) → files.old.content ≡ Some held → HoldsBut held files.new.content (name ∷ names)
 
 -- with this verdict no file is changed but those of these names, and by a refusal none
 abbrev pub KeepsFiles : Change Held → List (List ℕ) → Verdict → Type 0
-KeepsFiles files names (verdict.Refused refused) = files.new ≡ files.old
+KeepsFiles files names (verdict.Refused refused) = HasSameContent files
 KeepsFiles files names v = KeepsBut files names
 
 -- the bytes are held under the name
@@ -49,13 +50,13 @@ Stands (Some held) name bytes = held name ≡ Some bytes
 
 -- they do where the files report what they hold
 abbrev pub IsSaved : Change Held → List ℕ → List ℕ → Type 0
-IsSaved files name bytes = (held : Held) → files.old ≡ Some held → Stands files.new name bytes
+IsSaved files name bytes = (held : Held) → files.old.content ≡ Some held → Stands files.new.content name bytes
 
--- how the writing of a file ends
+-- the result of writing a file
 abbrev pub SaveCause : Change Held → List ℕ → List ℕ → Result (Unit {0}) Verdict → Type 0
-SaveCause files name bytes (Ok done) = IsSaved files name bytes × IsCalm files
+SaveCause files name bytes (Ok done) = IsSaved files name bytes × HasSameFaults files
 SaveCause files name bytes (Err verdict.WriteFault) = HasFailed files name
-SaveCause files name bytes (Err verdict.NoMemory) = IsCalm files
+SaveCause files name bytes (Err verdict.NoMemory) = HasSameFaults files
 SaveCause files name bytes (Err v) = ⊥
 
 -- and changes no other file
@@ -71,11 +72,11 @@ AreSaved files (save ∷ saves) = IsSaved files save.0 save.1 × AreSaved files 
 abbrev pub names_of : List (List ℕ × List ℕ) → List (List ℕ)
 names_of saves = map (λ save. save.0) saves
 
--- how the writing of several files ends
+-- the result of writing several files
 abbrev pub SavesCause : Change Held → List (List ℕ × List ℕ) → Result (Unit {0}) Verdict → Type 0
-SavesCause files saves (Ok done) = AreSaved files saves × IsCalm files
+SavesCause files saves (Ok done) = AreSaved files saves × HasSameFaults files
 SavesCause files saves (Err verdict.WriteFault) = (saves ≢ []) × HasOneFailed files (names_of saves)
-SavesCause files saves (Err verdict.NoMemory) = IsCalm files
+SavesCause files saves (Err verdict.NoMemory) = HasSameFaults files
 SavesCause files saves (Err v) = ⊥
 
 -- and changes no other file
@@ -115,11 +116,11 @@ saving_behavior stages IsText name IsBytes = record {
   written = name ∷ [];
   saved_first = [];
   run = None;
-  Ends = λ w finish stats. EndsSaving w (IsText w.files.old) name (IsBytes w.files.old) finish stats;
-  Begins = λ w. BeginsText w (IsText w.files.old);
-  Unsaved = λ w. IsStill w.out × HasFailed w.files name;
+  Ends = λ w finish stats. EndsSaving w (IsText w.files.old.content) name (IsBytes w.files.old.content) finish stats;
+  Begins = λ w. BeginsText w (IsText w.files.old.content);
+  Unsaved = λ w. IsStill w.output × HasFailed w.files name;
   Touches = λ w. Unit {0};
-  IsWhole = λ w rest taken. SavesWhole w (IsText w.files.old) name (IsBytes w.files.old) rest taken;
+  IsWhole = λ w rest taken. SavesWhole w (IsText w.files.old.content) name (IsBytes w.files.old.content) rest taken;
   IsStatusExpected = λ w rest n. n ≡ status.done;
 }
 

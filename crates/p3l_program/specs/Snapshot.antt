@@ -7,7 +7,7 @@ use Rattle.p3l_io.specs.Content.{Held}
 use Rattle.p3l_load.specs.declared.loaded.Loaded.{Loaded}
 use Rattle.p3l_load.specs.declared.loaded.LoadRefusal.{LoadRefusal}
 use Rattle.p3l_load.specs.Load.{loaded_of}
-use Rattle.p3l_net.specs.declared.shot.Shot.{Shot}
+use Rattle.p3l_firing.specs.declared.shot.Shot.{Shot}
 use Rattle.p3l_orderly.specs.Sound.{IsSound}
 use Rattle.p3l_resume.specs.declared.saved.Saved.{Saved}
 use Rattle.p3l_resume.specs.declared.saved.ShotRefusal.{ShotRefusal}
@@ -51,7 +51,7 @@ pub record SpellsBrokenImage (why : LoadRefusal) (bytes : List ℕ) : Type 0 whe
 abbrev pub units_in : Loaded → Units
 units_in loaded = record { tree = loaded.tree; leaf = leaf (record { tree = loaded.tree; codes = loaded.codes }) }
 
--- what was saved is a state in which a run of what was loaded can be
+-- a shot is a state that a run of the loaded network can be in
 abbrev pub IsSoundFor : Loaded → Shot → Type 0
 IsSoundFor loaded shot = IsSound (units_in loaded) loaded.counts.list loaded.net shot
 

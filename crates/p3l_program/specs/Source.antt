@@ -10,7 +10,7 @@ use Rattle.p3l_opts.specs.declared.command.Build.{Build}
 use Rattle.p3l_check.specs.Many.{GivesUnlessMany}
 use Rattle.p3l_check.specs.Resolving.{ResolvedTree, resolved}
 use Rattle.p3l_program.specs.declared.source.Priced.{Priced}
-use Rattle.p3l_program.specs.declared.source.Source.{Source}
+use Rattle.p3l_program.specs.declared.source.SourceText.{SourceText}
 use Rattle.p3l_program.specs.File.{HasText, text_limit}
 use Rattle.p3l_program.specs.Plan.{HasCounts, IsAccepted}
 
@@ -36,13 +36,13 @@ pub record ComesToTree (text : List ℕ) (r : ResolvedTree) (tree : Tree) : Type
   pub lawful : IsLawfulTree r.tree
 
 -- a text comes to this program with its tree
-pub record IsSourceOf (text : List ℕ) (source : Source) : Type 0 where
+pub record IsSourceOf (text : List ℕ) (source : SourceText) : Type 0 where
   pub r : ResolvedTree
   pub comes : ComesToTree text r source.tree
   pub program_is : comes.accepted.program ≡ program_tree source.program
 
 -- and so does the text of a file
-pub record LoadsSource (files : Option Held) (name : List ℕ) (source : Source) : Type 0 where
+pub record LoadsSource (files : Option Held) (name : List ℕ) (source : SourceText) : Type 0 where
   pub text : List ℕ
   pub has : HasText files text_limit name text
   pub is : IsSourceOf text source

@@ -1,6 +1,7 @@
 -- The stages that come before the work of a command, in the order of their statuses.
 use Rattle.std.specs.Prelude.{◌≡◌, ℕ, List, [], ◌∷◌, ◌++◌, ◌⊎◌, Option, Some, None}
 use Rattle.p3l_ast.specs.Tree.{ProgramTree}
+use Rattle.p3l_io.specs.Change.{Change, HasFailed, HasSameFaults}
 use Rattle.p3l_io.specs.Content.{Held}
 use Rattle.p3l_cost.specs.declared.costs.Costs.{Costs}
 use Rattle.p3l_cert.specs.declared.cert.Cert.{Cert}
@@ -26,7 +27,6 @@ use Rattle.p3l_program.specs.Origin.{Origin, built, continued, imaged, scanned}
 use Rattle.p3l_program.specs.Scheduled.{HasNoPicks, HasPicks, picks_limit}
 use Rattle.p3l_program.specs.Snapshot.{HasSnapshot, IsNoSnapshot, IsResumable, IsUnsound, SpellsBrokenImage, SpellsNoImage, SpellsWith, snapshot_limit}
 use Rattle.p3l_program.specs.TraceFile.{HasNoTrace, HasTrace}
-use Rattle.p3l_program.specs.World.{Change, HasFailed, IsCalm}
 
 -- the file of this name can be read, within its limit; its text spells a program; the program keeps all rules; the file of the second
 -- name says costs of it; some counts fit the processors; the bytes of the file spell an image; the image can be run; it can be run once its net is linked anew; the file of this
@@ -57,48 +57,48 @@ pub data Stage : Type 0 where
 
 -- the stage is passed
 abbrev pub Passes : Change Held → Stage → Type 0
-Passes files (readable limit name) = (text : List ℕ) × HasText files.old limit name text
-Passes files (spelled name) = (program : ProgramTree) × HasProgram files.old name program
-Passes files (resolved name) = (r : ResolvedTree) × HasTree files.old name r
-Passes files (priced program costs) = (r : ResolvedTree) × (cs : Costs) × HasCosts files.old program (Some costs) r cs
-Passes files (fitting build) = (r : ResolvedTree) × (cs : Costs) × (counts : List ℕ) × HasCounts files.old build r cs counts
-Passes files (decoded name) = (i : Image) × HasBytes files.old name (IsImage i)
-Passes files (loaded name) = (i : Image) × HasBytes files.old name (IsRunnableImage i)
-Passes files (migratable name) = (i : Image) × HasBytes files.old name (IsMigratable i)
-Passes files (scheduled origin name) = (n : Network) × (s : Schedule) × HasNetwork files.old origin n × HasPicks files.old (size_of n) name s
-Passes files (certified program costs name) = (r : ResolvedTree) × (cs : Costs) × (cert : Cert) × HasCert files.old program costs name r cs cert
-Passes files (traced name) = (t : Traced) × HasTrace files.old name t
+Passes files (readable limit name) = (text : List ℕ) × HasText files.old.content limit name text
+Passes files (spelled name) = (program : ProgramTree) × HasProgram files.old.content name program
+Passes files (resolved name) = (r : ResolvedTree) × HasTree files.old.content name r
+Passes files (priced program costs) = (r : ResolvedTree) × (cs : Costs) × HasCosts files.old.content program (Some costs) r cs
+Passes files (fitting build) = (r : ResolvedTree) × (cs : Costs) × (counts : List ℕ) × HasCounts files.old.content build r cs counts
+Passes files (decoded name) = (i : Image) × HasBytes files.old.content name (IsImage i)
+Passes files (loaded name) = (i : Image) × HasBytes files.old.content name (IsRunnableImage i)
+Passes files (migratable name) = (i : Image) × HasBytes files.old.content name (IsMigratable i)
+Passes files (scheduled origin name) = (n : Network) × (s : Schedule) × HasNetwork files.old.content origin n × HasPicks files.old.content (size_of n) name s
+Passes files (certified program costs name) = (r : ResolvedTree) × (cs : Costs) × (cert : Cert) × HasCert files.old.content program costs name r cs cert
+Passes files (traced name) = (t : Traced) × HasTrace files.old.content name t
 Passes files (text_kept text) = (r : ResolvedTree) × IsAccepted text r
 Passes files (text_priced text said) = (r : ResolvedTree) × (cs : Costs) × IsPriced text (Some said) r cs
 Passes files (text_fitting text said processors) = (r : ResolvedTree) × (cs : Costs) × (counts : List ℕ) × IsAllotted text (Some said) processors r cs counts
-Passes files (scannable name segments) = (r : ResolvedTree) × HasScan files.old name segments r
-Passes files (saved name) = (shot : Saved) × HasSnapshot files.old name (IsSpelling shot)
-Passes files (saved_decoded name) = (i : Image) × HasSnapshot files.old name (SpellsWith (IsImage i))
-Passes files (saved_loaded name) = (i : Image) × HasSnapshot files.old name (SpellsWith (IsRunnableImage i))
-Passes files (resumable name) = (i : Image) × (shot : Saved) × HasSnapshot files.old name (IsResumable i shot)
+Passes files (scannable name segments) = (r : ResolvedTree) × HasScan files.old.content name segments r
+Passes files (saved name) = (shot : Saved) × HasSnapshot files.old.content name (IsSpelling shot)
+Passes files (saved_decoded name) = (i : Image) × HasSnapshot files.old.content name (SpellsWith (IsImage i))
+Passes files (saved_loaded name) = (i : Image) × HasSnapshot files.old.content name (SpellsWith (IsRunnableImage i))
+Passes files (resumable name) = (i : Image) × (shot : Saved) × HasSnapshot files.old.content name (IsResumable i shot)
 
 -- the stage refuses so
 abbrev pub Refuses : Change Held → Stage → Refusal → Type 0
 Refuses files (readable limit name) (refusal.FileFault named) = (named ≡ name) × HasFailed files name
-Refuses files (readable limit name) (refusal.FileTooLong named) = (named ≡ name) × IsTooLong files.old limit name
-Refuses files (spelled name) (refusal.Source fault pos) = HasFault files.old name fault pos
-Refuses files (resolved name) (refusal.Source fault pos) = HasNoTree files.old name fault pos
-Refuses files (priced program costs) (refusal.Costs why) = HasNoCosts files.old program costs why
-Refuses files (fitting build) (refusal.TooFew need) = HasTooFew files.old build need
-Refuses files (decoded name) (refusal.Evidence (evidence.Image why)) = HasBytes files.old name (IsNoImage why)
-Refuses files (loaded name) (refusal.Evidence (evidence.Load why)) = HasBytes files.old name (IsBrokenImage why)
-Refuses files (migratable name) (refusal.Evidence (evidence.Load why)) = HasBytes files.old name (IsUnmigratable why)
-Refuses files (scheduled origin name) (refusal.Schedule why) = HasNoPicks files.old origin name why
-Refuses files (certified program costs name) (refusal.Evidence (evidence.Cert why)) = HasNoCert files.old program costs name why
-Refuses files (traced name) (refusal.Evidence (evidence.Trace (trace.BadLine line))) = HasNoTrace files.old name line
+Refuses files (readable limit name) (refusal.FileTooLong named) = (named ≡ name) × IsTooLong files.old.content limit name
+Refuses files (spelled name) (refusal.Source fault pos) = HasFault files.old.content name fault pos
+Refuses files (resolved name) (refusal.Source fault pos) = HasNoTree files.old.content name fault pos
+Refuses files (priced program costs) (refusal.Costs why) = HasNoCosts files.old.content program costs why
+Refuses files (fitting build) (refusal.TooFew need) = HasTooFew files.old.content build need
+Refuses files (decoded name) (refusal.Evidence (evidence.Image why)) = HasBytes files.old.content name (IsNoImage why)
+Refuses files (loaded name) (refusal.Evidence (evidence.Load why)) = HasBytes files.old.content name (IsBrokenImage why)
+Refuses files (migratable name) (refusal.Evidence (evidence.Load why)) = HasBytes files.old.content name (IsUnmigratable why)
+Refuses files (scheduled origin name) (refusal.Schedule why) = HasNoPicks files.old.content origin name why
+Refuses files (certified program costs name) (refusal.Evidence (evidence.Cert why)) = HasNoCert files.old.content program costs name why
+Refuses files (traced name) (refusal.Evidence (evidence.Trace (trace.BadLine line))) = HasNoTrace files.old.content name line
 Refuses files (text_kept text) (refusal.Source fault pos) = IsNotAccepted text fault pos
 Refuses files (text_priced text said) (refusal.Costs why) = IsUnpriced text said why
 Refuses files (text_fitting text said processors) (refusal.TooFew need) = IsOverfull text (Some said) processors need
-Refuses files (scannable name segments) (refusal.Scan why) = HasNoScan files.old name segments why
-Refuses files (saved name) (refusal.Evidence (evidence.Shot why)) = HasSnapshot files.old name (IsNoSnapshot why)
-Refuses files (saved_decoded name) (refusal.Evidence (evidence.Image why)) = HasSnapshot files.old name (SpellsNoImage why)
-Refuses files (saved_loaded name) (refusal.Evidence (evidence.Load why)) = HasSnapshot files.old name (SpellsBrokenImage why)
-Refuses files (resumable name) (refusal.Evidence evidence.NotSound) = HasSnapshot files.old name IsUnsound
+Refuses files (scannable name segments) (refusal.Scan why) = HasNoScan files.old.content name segments why
+Refuses files (saved name) (refusal.Evidence (evidence.Shot why)) = HasSnapshot files.old.content name (IsNoSnapshot why)
+Refuses files (saved_decoded name) (refusal.Evidence (evidence.Image why)) = HasSnapshot files.old.content name (SpellsNoImage why)
+Refuses files (saved_loaded name) (refusal.Evidence (evidence.Load why)) = HasSnapshot files.old.content name (SpellsBrokenImage why)
+Refuses files (resumable name) (refusal.Evidence evidence.NotSound) = HasSnapshot files.old.content name IsUnsound
 Refuses files stage refused = ⊥
 
 -- all stages are passed
@@ -111,11 +111,11 @@ abbrev pub IsRefusedBy : Change Held → List Stage → Refusal → Type 0
 IsRefusedBy files [] refused = ⊥
 IsRefusedBy files (stage ∷ stages) refused = Refuses files stage refused ⊎ (Passes files stage × IsRefusedBy files stages refused)
 
--- how the count of faults of the files goes with a refusal: only a fault of reading raises it, and the file that is named is that
+-- the cause of a refusal, in the count of faults of the files: only a fault of reading raises it, and it names the file
 -- whose reading failed
 abbrev pub FilesCause : Refusal → Change Held → Type 0
 FilesCause (refusal.FileFault name) files = HasFailed files name
-FilesCause refused files = IsCalm files
+FilesCause refused files = HasSameFaults files
 
 -- a program is read, and keeps all rules
 abbrev pub program_stages : List ℕ → List Stage
@@ -153,7 +153,7 @@ scan_stages name segments = program_stages name ++ scannable name segments ∷ [
 abbrev pub snapshot_stages : List ℕ → List Stage
 snapshot_stages name = readable snapshot_limit name ∷ (saved name ∷ (saved_decoded name ∷ (saved_loaded name ∷ (resumable name ∷ []))))
 
--- what is run is built or loaded, or its scan is planned
+-- the stages of an origin: it is built or loaded, or its scan is planned
 abbrev pub origin_stages : Origin → List Stage
 origin_stages (built build) = build_stages build
 origin_stages (imaged name) = image_stages name
@@ -166,6 +166,6 @@ schedule_stages origin sched.RoundRobin = []
 schedule_stages origin (sched.Seeded seed) = []
 schedule_stages origin (sched.File name) = readable picks_limit name ∷ (scheduled origin name ∷ [])
 
--- what is run is built or loaded, or its scan is planned, and it has a schedule
+-- the stages of a run: its origin is built or loaded, or its scan is planned, and it has a schedule
 abbrev pub run_stages : Origin → Sched → List Stage
 run_stages origin schedule = origin_stages origin ++ schedule_stages origin schedule

@@ -1,6 +1,7 @@
 -- The command `time`: a program run on the input in virtual time.
 use Rattle.std.specs.Prelude.{◌≡◌, ◌<◌, ◌≤◌, ℕ, ℤ, false, List, [], ◌++◌, ◌⊎◌, length, Ok, Err, Option, Some, None, slice_index}
 use Rattle.std.specs.Option.{option_to_list}
+use Rattle.p3l_io.specs.Change.{Change, HasFailed, HasRisen, HasSameContent, HasSameFaults}
 use Rattle.p3l_io.specs.Content.{Held}
 use Rattle.p3l_opts.specs.declared.command.Build.{Build}
 use Rattle.p3l_report.specs.declared.stats.Stats.{Stats}
@@ -34,7 +35,7 @@ use Rattle.p3l_program.specs.Plan.{HasNetwork, network_in}
 use Rattle.p3l_program.specs.Run.{IsRunNot, keeping_for, run_status, seen_of}
 use Rattle.p3l_program.specs.Saved.{KeepsFiles}
 use Rattle.p3l_program.specs.Stage.{build_stages}
-use Rattle.p3l_program.specs.World.{Change, HasFailed, HasRisen, IsCalm, World}
+use Rattle.p3l_program.specs.World.{World}
 
 -- the network that files and words request, and the prices of its processes by the costs that files and words request
 pub record HasPrices (files : Option Held) (build : Build) (n : Network) (prices : List ℕ) : Type 0 where
@@ -46,7 +47,7 @@ pub record HasPrices (files : Option Held) (build : Build) (n : Network) (prices
 -- run, each is made, no process can fire after them; and it lasts no less than any process is busy, and no more than all are
 pub record RunsInTime (n : Network) (prices : List ℕ) (input out : Change (List ℕ)) (keeping : Keeping) (picks : List ℕ) (ran : Ran) : Type 0 where
   pub few : size_of n ≤ 1048576
-  pub finishes : Finishes n (schedule.Recorded picks) keeping input.old input.new input.before input.now out.old out.new ran
+  pub finishes : Finishes n (schedule.Recorded picks) keeping input out ran
   pub timed : (later : List (List ℤ)) → MayCome n finishes.close later → AreTimed n prices (finishes.items ++ later) picks
   pub made : (later : List (List ℤ)) → MayCome n finishes.close later → picks_of n (schedule.Recorded picks) (finishes.items ++ later) ≡ picks
   pub over : (later : List (List ℤ)) → MayCome n finishes.close later → goes_on n (course_of n (schedule.Recorded picks) (finishes.items ++ later)) ≡ false
@@ -87,51 +88,51 @@ pub record IsTimeOver (n : Network) (prices : List ℕ) (input out : Change (Lis
 -- items that the stream gave and whatever may still come after them
 pub record IsTimeBegun (n : Network) (prices : List ℕ) (input out : Change (List ℕ)) : Type 0 where
   pub picks : List ℕ
-  pub starts : Starts n (schedule.Recorded picks) input.old input.new input.before input.now out.old out.new
+  pub starts : Starts n (schedule.Recorded picks) input out
   pub begins : (later : List (List ℤ)) → MayFollow n starts.closed later → BeginTimed n prices (starts.items ++ later) picks
 
 -- the network that files and words request was run in virtual time to this end
 pub record EndsTime (w : World) (build : Build) (name : Option (List ℕ)) (finish : Finish) (report : Option Stats) : Type 0 where
   pub n : Network
   pub prices : List ℕ
-  pub has : HasPrices w.files.old build n prices
-  pub to : TimesTo n prices w.files w.input w.out name finish report
+  pub has : HasPrices w.files.old.content build n prices
+  pub to : TimesTo n prices w.files w.input w.output name finish report
 
 pub record TimesOver (w : World) (build : Build) : Type 0 where
   pub n : Network
   pub prices : List ℕ
-  pub has : HasPrices w.files.old build n prices
-  pub over : IsTimeOver n prices w.input w.out
+  pub has : HasPrices w.files.old.content build n prices
+  pub over : IsTimeOver n prices w.input w.output
 
 pub record BeginsTime (w : World) (build : Build) : Type 0 where
   pub n : Network
   pub prices : List ℕ
-  pub has : HasPrices w.files.old build n prices
-  pub begun : IsTimeBegun n prices w.input w.out
+  pub has : HasPrices w.files.old.content build n prices
+  pub begun : IsTimeBegun n prices w.input w.output
 
 -- the file of its picks could not be written, when it was over
 abbrev pub UnsavedTime : World → Build → Option (List ℕ) → Type 0
 UnsavedTime w build None = ⊥
-UnsavedTime w build (Some name) = TimesOver w build × IsCalm w.out × HasFailed w.files name
+UnsavedTime w build (Some name) = TimesOver w build × HasSameFaults w.output × HasFailed w.files name
 
 -- over an input and an output that report: the whole input was taken, each of its lines is an item or has no words, the whole text of the
 -- meaning of its items was written, and the picks are those of the timed run on them
 pub record TimesWhole (w : World) (build : Build) (name : Option (List ℕ)) (rest taken : List ℕ) : Type 0 where
   pub n : Network
   pub prices : List ℕ
-  pub has : HasPrices w.files.old build n prices
+  pub has : HasPrices w.files.old.content build n prices
   pub picks : List ℕ
   pub timed : AreTimed n prices (items_of (width_of n) rest).items picks
-  pub input_ended : w.input.new ≡ Some []
+  pub input_ended : w.input.new.content ≡ Some []
   pub all_items : (items_of (width_of n) rest).ending ≡ ending.End
-  pub taken_is : w.out.new ≡ Some (taken ++ text_of (meaning_of n (items_of (width_of n) rest).items))
+  pub taken_is : w.output.new.content ≡ Some (taken ++ text_of (meaning_of n (items_of (width_of n) rest).items))
   pub saved : ArePicksSaved w.files name picks
 
 -- the run in virtual time of what is seen of an input is expected to end with this status
 pub record IsTimeStatus (w : World) (build : Build) (rest : List ℕ) (k : ℕ) : Type 0 where
   pub n : Network
   pub prices : List ℕ
-  pub has : HasPrices w.files.old build n prices
+  pub has : HasPrices w.files.old.content build n prices
   pub picks : List ℕ
   pub timed : AreTimed n prices (seen_of (width_of n) rest).items picks
   pub status_is : k ≡ run_status n (schedule.Recorded picks) rest
@@ -168,7 +169,7 @@ pub record AreReported (numbers : RunStats) (k : Clock) (report : Option Stats) 
   pub busiest : IsBusiest k.busy p
   pub report_is : report ≡ Some (stats.Timed numbers.items numbers.fired k.moment p (slice_index k.busy p))
 
--- how a run that came to its end is reported, once its picks were written where a file is named for them
+-- the report of a run that came to its end, after its picks were written if a file is named for them
 abbrev pub IsTimeClosed : Change Held → Ran → Clock → Option (List ℕ) → Verdict → Type 0
 IsTimeClosed files ran k name (verdict.Ended finish report) = (finish ≡ Run ran.finish) × AreReported ran.stats k report × IsPicking files name ran.lines (Ok tt)
 IsTimeClosed files ran k name v = IsPicking files name ran.lines (Err v)
@@ -176,16 +177,16 @@ IsTimeClosed files ran k name v = IsPicking files name ran.lines (Err v)
 -- the file of its picks could not be written, when it was over
 abbrev pub IsUnsavedTime : Network → List ℕ → Change Held → Change (List ℕ) → Change (List ℕ) → Option (List ℕ) → Type 0
 IsUnsavedTime n prices files input out None = ⊥
-IsUnsavedTime n prices files input out (Some name) = IsTimeOver n prices input out × IsCalm out × HasFailed files name
+IsUnsavedTime n prices files input out (Some name) = IsTimeOver n prices input out × HasSameFaults out × HasFailed files name
 
--- how the run of a network in virtual time ends
+-- the end of the run of a network in virtual time
 abbrev pub IsTimeOf : Network → List ℕ → Change Held → Change (List ℕ) → Change (List ℕ) → Option (List ℕ) → Verdict → Type 0
 IsTimeOf n prices files input out name (verdict.Refused refused) = ⊥
-IsTimeOf n prices files input out name (verdict.Ended finish report) = TimesTo n prices files input out name finish report × IsCalm files × IsCalm out
-IsTimeOf n prices files input out name verdict.WriteFault = (IsTimeBegun n prices input out × IsCalm files × HasRisen out) ⊎ IsUnsavedTime n prices files input out name
+IsTimeOf n prices files input out name (verdict.Ended finish report) = TimesTo n prices files input out name finish report × HasSameFaults files × HasSameFaults out
+IsTimeOf n prices files input out name verdict.WriteFault = (IsTimeBegun n prices input out × HasSameFaults files × HasRisen out) ⊎ IsUnsavedTime n prices files input out name
 IsTimeOf n prices files input out name verdict.NoMemory = IsRunNot files input out ⊎ IsTimeBegun n prices input out
 
--- which files it changes: that of the picks alone, when it is over
+-- the files that it changes: that of the picks alone, when it is over
 pub record KeepsTime (n : Network) (prices : List ℕ) (files : Change Held) (input out : Change (List ℕ)) (name : Option (List ℕ)) (v : Verdict) : Type 0 where
   pub kept : KeepsFiles files (option_to_list name) v
-  pub over : (files.new ≡ files.old) ⊎ IsTimeOver n prices input out
+  pub over : HasSameContent files ⊎ IsTimeOver n prices input out

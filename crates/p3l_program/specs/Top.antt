@@ -1,6 +1,7 @@
--- What the program promises: how its status, what it read and wrote and its files go together.
+-- The promises of the program: its status goes with its input, its output and its files.
 use Rattle.std.specs.Prelude.{◌≡◌, ◌≢◌, ◌<◌, ℕ, Bool, List, ◌⊎◌, Some, true}
 use Rattle.clap.specs.Words.{Text}
+use Rattle.p3l_io.specs.Change.{Change, HasRisen, HasSameContent}
 use Rattle.p3l_opts.specs.declared.command.Command.{Command}
 use Rattle.p3l_opts.specs.Command.{Spells}
 use Rattle.p3l_run.specs.declared.end.RunStats.{RunStats}
@@ -13,7 +14,7 @@ use Rattle.p3l_program.specs.Origin.{Running}
 use Rattle.p3l_program.specs.Run.{Emits}
 use Rattle.p3l_program.specs.Stage.{AllPass}
 use Rattle.p3l_program.specs.Wants.{IsWanting, SavesLong}
-use Rattle.p3l_program.specs.World.{Change, HasNoFault, HasRisen, IsUntouched, WhenKnown, World}
+use Rattle.p3l_program.specs.World.{HasNoFault, IsUntouched, WhenKnown, World}
 
 -- no memory was left, or the status is this
 abbrev pub Gives : (status wanted : ℕ) → Type 0
@@ -21,12 +22,12 @@ Gives k wanted = (k ≡ wanted) ⊎ (k ≡ status.no_memory)
 
 -- of words, of what was there before and after, and of a status
 pub record Promises (outside : Bool) (words : List Text) (w : World) (err : Change (List ℕ)) (k : ℕ) : Type 0 where
-  -- How it ended: with this status, why, what was written, and the lines on the standard error.
+  -- The end: with this status, its cause, the text that was written, and the lines on the standard error.
   pub answers : Answers outside words w err k
-  -- What is written begins what the command that the words spell writes: of `run` and `exec` the text
-  -- of the program's meaning on the items read, of `resume` the text of what is to come of what was
-  -- saved and of this meaning, and no more than the network emits under the schedule, of `fmt` the
-  -- canonical text of the program, of `gen` the line of the run of the texts that its number gives.
+  -- The text written is a prefix of the text of the command that the words spell: for `run` and `exec`
+  -- that of the program's meaning on the items read, for `resume` that of the outcomes to come of the
+  -- snapshot and of this meaning, and no more than the network emits under the schedule, for `fmt` the
+  -- canonical text of the program, for `gen` the line of the run of the texts that its number gives.
   pub begins : IsUntouched w ⊎ BeginsWork words w
   -- With status 0 it is the whole, and `run`, `exec` and `resume` read their input to the end.
   pub done : WhenKnown w (λ held rest taken. k ≡ status.done → IsDone words w rest taken)
@@ -45,16 +46,16 @@ pub record Promises (outside : Bool) (words : List Text) (w : World) (err : Chan
   pub refused_where : WhenKnown w (λ held rest taken. (refused : Refusal) → IsRefusedAt words w.files refused →
       (HasRisen w.files → ⊥) → Gives k (refusal_status refused))
   -- A file that is longer than its limit gives 9, whatever its text is.
-  pub long_file : WhenKnown w (λ held rest taken. HasTooLong words w.files.old → Gives k status.file)
-  -- Where all stages pass and no call fails, `run` and `exec` end by what is seen of their input below
-  -- the limit, and a command that writes a text with 0.
+  pub long_file : WhenKnown w (λ held rest taken. HasTooLong words w.files.old.content → Gives k status.file)
+  -- If all stages pass and no call fails, the input below the limit determines how `run` and `exec`
+  -- end, and a command that writes a text ends with 0.
   pub completes : WhenKnown w (λ held rest taken. (command : Command) → Spells words command →
       AllPass w.files (stages_of command) → HasNoFault w → IsStatusExpected w rest command k ⊎ (k ≡ status.no_memory))
   -- The line of the numbers comes where the words request it, and they are the run's: they come with
   -- what the network emitted, and with the bound on its firings.
   pub reported : (command : Command) (run : Running) → Spells words command → run_of command ≡ Some run →
-      run.reported ≡ true → status.is_end k ≡ true → (said : List ℕ) → err.old ≡ Some said → (HasRisen err → ⊥) →
-      Reports w run said err.new
+      run.reported ≡ true → status.is_end k ≡ true → (said : List ℕ) → err.old.content ≡ Some said → (HasRisen err → ⊥) →
+      Reports w run said err.new.content
   -- With each status of an end the text of what the network emits was written, and where the words name
   -- a file for the trace of the run, it has the text of it: its picks are those of the schedule, and it
   -- agrees with this same run.
@@ -67,14 +68,14 @@ pub record Promises (outside : Bool) (words : List Text) (w : World) (err : Chan
   -- output did, or where the writing of a file failed that the command writes. A fault of reading names
   -- the file whose reading failed, which `answers` and `refused` say.
   pub read_fault : k ≡ status.read → HasRisen w.input
-  pub write_fault : k ≡ status.write → HasRisen w.out ⊎ IsUnwritten words w.files
+  pub write_fault : k ≡ status.write → HasRisen w.output ⊎ IsUnwritten words w.files
   -- No failure is dropped: of a file that is read it gives 9, and of one that is written 10.
-  pub out_failed : w.out.before < w.out.now → Gives k status.write
-  pub files_failed : w.files.before < w.files.now →
+  pub out_failed : w.output.old.faults < w.output.new.faults → Gives k status.write
+  pub files_failed : w.files.old.faults < w.files.new.faults →
       (k ≡ status.file) ⊎ ((k ≡ status.no_memory) ⊎ (SpellsWriter words × (k ≡ status.write)))
-  pub input_failed : w.input.before < w.input.now → (k ≢ status.done) × (k ≢ status.too_long) × (k ≢ status.stream)
+  pub input_failed : w.input.old.faults < w.input.new.faults → (k ≢ status.done) × (k ≢ status.too_long) × (k ≢ status.stream)
   -- 11 comes only where a request for memory was refused, or where `clap`, `toml` or the files, if they
   -- may, said themselves that memory ran out; and of `save`, where an image is too long for a snapshot.
-  pub no_memory : k ≡ status.no_memory → IsWanting outside ⊎ SavesLong words w.files.old
+  pub no_memory : k ≡ status.no_memory → IsWanting outside ⊎ SavesLong words w.files.old.content
   -- No file is changed but those that the words name for writing, and by a run none before it is over.
-  pub files_stay : (w.files.new ≡ w.files.old) ⊎ KeepsOthers words w
+  pub files_stay : HasSameContent w.files ⊎ KeepsOthers words w

@@ -1,6 +1,7 @@
--- What `resume` makes of the snapshots that `save` leaves.
+-- The runs by `resume` of the snapshots that `save` leaves.
 use Rattle.std.specs.Prelude.{◌≡◌, ℕ, ℤ, ◌+◌, ◌≤◌, Bool, List, ◌++◌, Option, Some, None}
 use Rattle.p3l_base.specs.declared.outcome.Outcome.{Outcome}
+use Rattle.p3l_io.specs.Change.{Change, HasFailed}
 use Rattle.p3l_io.specs.Content.{Held}
 use Rattle.p3l_opts.specs.declared.command.Build.{Build}
 use Rattle.p3l_opts.specs.declared.command.Sched.{Sched}
@@ -19,20 +20,20 @@ use Rattle.p3l_program.specs.Run.{EndsRun}
 use Rattle.p3l_program.specs.SaveState.{EndsSave}
 use Rattle.p3l_program.specs.Snapshot.{snapshot_limit}
 use Rattle.p3l_program.specs.Stage.{AllPass, IsRefusedBy, snapshot_stages}
-use Rattle.p3l_program.specs.World.{Change, HasFailed, World}
+use Rattle.p3l_program.specs.World.{World}
 
 -- a file that holds the snapshot passes all stages of `resume` that come before its schedule, and where the files report what they hold,
 -- none of them refuses it but for a fault of reading
 pub record IsResumed (files : Change Held) (name : List ℕ) : Type 0 where
   pub passed : AllPass files (snapshot_stages name)
-  pub only : (held : Held) (refused : Refusal) → files.old ≡ Some held → IsRefusedBy files (snapshot_stages name) refused →
+  pub only : (held : Held) (refused : Refusal) → files.old.content ≡ Some held → IsRefusedBy files (snapshot_stages name) refused →
       (refused ≡ refusal.FileFault name) × HasFailed files name
 
 -- whatever `save` wrote as a snapshot is resumed from any file that holds it, where it is no longer than such files may be
 abbrev pub EverySnapshotIsResumed : Type 0
 EverySnapshotIsResumed =
     (w : World) (build : Build) (picks output name : List ℕ) (report : Option Stats) (files : Change Held) → (e : EndsSave w build picks output Done report) →
-    HasText files.old snapshot_limit name e.to.bytes → IsResumed files name
+    HasText files.old.content snapshot_limit name e.to.bytes → IsResumed files name
 
 -- TWO PARTS OF A RUN ARE ONE: the network emits on the items of both, under the picks of both, what both emitted; it fired and was idle
 -- as often as both together, which is at most what is said of all items that were sent, and their number is that of the second part
@@ -56,4 +57,4 @@ abbrev pub EveryResumedRunIsUnbroken : Type 0
 EveryResumedRunIsUnbroken =
     (w after : World) (build : Build) (picks output name : List ℕ) (report stats : Option Stats) (request : Sched) (reported : Bool) (finish : Finish) (held : Held) →
     (e : EndsSave w build picks output Done report) → (r : EndsRun after (continued name) request None reported finish stats) →
-    after.files.old ≡ Some held → held name ≡ Some e.to.bytes → IsUnbroken e r
+    after.files.old.content ≡ Some held → held name ≡ Some e.to.bytes → IsUnbroken e r

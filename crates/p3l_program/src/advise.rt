@@ -1,10 +1,10 @@
 // The command `advise`: what numbers of processors buy for a program, or the processes of its nodes.
 
-ghost use Rattle.std.specs.Prelude.{◌≡◌, ◌≤◌};
+ghost use Rattle.std.specs.Prelude.{◌≤◌};
+ghost use Rattle.p3l_io.specs.Change.{HasSameContent, change};
 ghost use Rattle.p3l_program.specs.Advise.{IsAdvised, IsListed, IsRequested};
 ghost use Rattle.p3l_program.specs.Stage.{build_stages};
 ghost use Rattle.p3l_program.specs.Text.{IsTextExpected};
-ghost use Rattle.p3l_program.specs.World.{change, files_change};
 ghost use Rattle.p3l_program.specs.Wants.{Wants};
 
 use crate::plan::{allot, load_network};
@@ -24,10 +24,10 @@ fn write_advice<F: Files, K: Sink>(
     out: &mut K,
 ) -> Verdict
     requires processors { (1 ≤ build.processors) × (build.processors ≤ 512) }
-    ensures expected { IsTextExpected (files_change F.held F.faults F.failed files.old files.new)
-        (change K.taken K.faults out.old out.new) (build_stages build)
-        (IsAdvised (F.held files.old) build) result }
-    ensures stays { F.held files.new ≡ F.held files.old }
+    ensures expected { IsTextExpected (change (F.observed files.old) (F.observed files.new))
+        (change (K.observed out.old) (K.observed out.new)) (build_stages build)
+        (IsAdvised (F.observed files.old).content build) result }
+    ensures same_files { HasSameContent (change (F.observed files.old) (F.observed files.new)) }
     ensures wants { Wants F.may_want result }
 {
     let processors = build.processors;
@@ -52,10 +52,10 @@ fn list_processes<F: Files, K: Sink>(
 ) -> Verdict
     requires processors { (1 ≤ build.processors) × (build.processors ≤ 512) }
     requires capacity { (1 ≤ build.capacity) × (build.capacity ≤ 1024) }
-    ensures expected { IsTextExpected (files_change F.held F.faults F.failed files.old files.new)
-        (change K.taken K.faults out.old out.new) (build_stages build)
-        (IsListed (F.held files.old) build) result }
-    ensures stays { F.held files.new ≡ F.held files.old }
+    ensures expected { IsTextExpected (change (F.observed files.old) (F.observed files.new))
+        (change (K.observed out.old) (K.observed out.new)) (build_stages build)
+        (IsListed (F.observed files.old).content build) result }
+    ensures same_files { HasSameContent (change (F.observed files.old) (F.observed files.new)) }
     ensures wants { Wants F.may_want result }
 {
     match load_network(alloc, build, files) {
@@ -77,10 +77,10 @@ pub fn advise<F: Files, K: Sink>(
 ) -> Verdict
     requires processors { (1 ≤ build.processors) × (build.processors ≤ 512) }
     requires capacity { (1 ≤ build.capacity) × (build.capacity ≤ 1024) }
-    ensures expected { IsTextExpected (files_change F.held F.faults F.failed files.old files.new)
-        (change K.taken K.faults out.old out.new) (build_stages build)
-        (IsRequested (F.held files.old) build processes) result }
-    ensures stays { F.held files.new ≡ F.held files.old }
+    ensures expected { IsTextExpected (change (F.observed files.old) (F.observed files.new))
+        (change (K.observed out.old) (K.observed out.new)) (build_stages build)
+        (IsRequested (F.observed files.old).content build processes) result }
+    ensures same_files { HasSameContent (change (F.observed files.old) (F.observed files.new)) }
     ensures wants { Wants F.may_want result }
 {
     if processes {

@@ -1,12 +1,12 @@
 // The certificate of a program and its costs.
 
 ghost use Rattle.std.specs.Prelude.{◌≡◌, IfOk, IfErr, OnOk};
+ghost use Rattle.p3l_io.specs.Change.{HasSameContent, change};
 ghost use Rattle.p3l_skel.specs.Lawful.{IsLawfulTree};
 ghost use Rattle.p3l_cost.specs.Costs.{AreCostsOf};
 ghost use Rattle.p3l_program.specs.Load.{IsNotLoaded};
 ghost use Rattle.p3l_program.specs.LoadCert.{AcceptsCert, IsCertRefused, IsCertless, LoadsCert, LoadsVerified};
 ghost use Rattle.p3l_program.specs.Stage.{verify_stages};
-ghost use Rattle.p3l_program.specs.World.{files_change};
 ghost use Rattle.p3l_program.specs.Wants.{Wants};
 
 use crate::file::find_text;
@@ -52,12 +52,13 @@ fn cert_in<F: Files>(
 ) -> Result<Cert, Verdict>
     requires lawful { IsLawfulTree tree.now }
     requires costs { AreCostsOf tree.now costs.now }
-    ensures loaded { IfOk result (LoadsCert (F.held files.old) name tree.now costs.now) }
-    ensures calm { OnOk result (F.faults files.new ≡ F.faults files.old) }
-    ensures refused { IfErr result (IsCertless
-        (files_change F.held F.faults F.failed files.old files.new)
-        name tree.now costs.now) }
-    ensures stays { F.held files.new ≡ F.held files.old }
+    ensures loaded { IfOk result (LoadsCert (F.observed files.old).content name tree.now
+        costs.now) }
+    ensures unchanged { OnOk result (F.observed files.new ≡ F.observed files.old) }
+    ensures refused { IfErr result
+        (IsCertless (change (F.observed files.old) (F.observed files.new)) name tree.now
+        costs.now) }
+    ensures same_files { HasSameContent (change (F.observed files.old) (F.observed files.new)) }
     ensures wants { IfErr result (Wants F.may_want) }
 {
     match find_text(alloc, name, CERT_LIMIT, files) {
@@ -78,12 +79,12 @@ pub fn load_cert<F: Files>(
     name: Name,
     files: &mut F,
 ) -> Result<Cert, Verdict>
-    ensures loaded { IfOk result (LoadsVerified (F.held files.old) program costs name) }
-    ensures calm { OnOk result (F.faults files.new ≡ F.faults files.old) }
-    ensures refused { IfErr result (IsNotLoaded
-        (files_change F.held F.faults F.failed files.old files.new)
+    ensures loaded { IfOk result (LoadsVerified (F.observed files.old).content program costs name) }
+    ensures unchanged { OnOk result (F.observed files.new ≡ F.observed files.old) }
+    ensures refused { IfErr result
+        (IsNotLoaded (change (F.observed files.old) (F.observed files.new))
         (verify_stages program name costs)) }
-    ensures stays { F.held files.new ≡ F.held files.old }
+    ensures same_files { HasSameContent (change (F.observed files.old) (F.observed files.new)) }
     ensures wants { IfErr result (Wants F.may_want) }
 {
     let program = match load_program(alloc, program, files) {

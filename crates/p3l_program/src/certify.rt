@@ -1,11 +1,11 @@
 // The command `explain` with a file for the certificate of the counts.
 
 ghost use Rattle.std.specs.Prelude.{◌≡◌, ◌∷◌, ◌≤◌, []};
+ghost use Rattle.p3l_io.specs.Change.{change};
 ghost use Rattle.p3l_program.specs.Certificate.{IsCertificate};
 ghost use Rattle.p3l_program.specs.Explain.{IsExplained};
 ghost use Rattle.p3l_program.specs.Saved.{IsSavingExpected, KeepsFiles};
 ghost use Rattle.p3l_program.specs.Stage.{build_stages};
-ghost use Rattle.p3l_program.specs.World.{change, files_change};
 ghost use Rattle.p3l_program.specs.Wants.{Wants};
 
 use crate::plan::{Allotted, allot};
@@ -29,12 +29,12 @@ pub fn certify<F: Files, K: Sink>(
     out: &mut K,
 ) -> Verdict
     requires processors { (1 ≤ build.processors) × (build.processors ≤ 512) }
-    ensures expected { IsSavingExpected (files_change F.held F.faults F.failed files.old files.new)
-        (change K.taken K.faults out.old out.new) (build_stages build)
-        (IsExplained (F.held files.old) build) name (IsCertificate (F.held files.old) build)
+    ensures expected { IsSavingExpected (change (F.observed files.old) (F.observed files.new))
+        (change (K.observed out.old) (K.observed out.new)) (build_stages build)
+        (IsExplained (F.observed files.old).content build) name
+        (IsCertificate (F.observed files.old).content build) result }
+    ensures kept { KeepsFiles (change (F.observed files.old) (F.observed files.new)) (name ∷ [])
         result }
-    ensures kept { KeepsFiles
-        (files_change F.held F.faults F.failed files.old files.new) (name ∷ []) result }
     ensures wants { Wants F.may_want result }
 {
     let processors = build.processors;

@@ -2,10 +2,10 @@
 
 ghost use Rattle.std.specs.Prelude.{◌≡◌, length, string_bytes};
 ghost use Rattle.p3l_base.specs.Memory.{IfGiven};
+ghost use Rattle.p3l_io.specs.Change.{HasSameContent, change};
 ghost use Rattle.p3l_program.specs.Check.{IsCounted, ok_line};
 ghost use Rattle.p3l_program.specs.Text.{IsTextExpected};
 ghost use Rattle.p3l_program.specs.Stage.{program_stages};
-ghost use Rattle.p3l_program.specs.World.{change, files_change};
 ghost use Rattle.p3l_program.specs.Wants.{Wants};
 
 use crate::plan::load_program;
@@ -28,10 +28,10 @@ fn ok_line(alloc: Global, tree: &Tree) -> Result<String, NoMemory>
 
 /// Writes how many modules and instances the program of the file of this name has.
 pub fn check<F: Files, K: Sink>(alloc: Global, name: Name, files: &mut F, out: &mut K) -> Verdict
-    ensures expected { IsTextExpected (files_change F.held F.faults F.failed files.old files.new)
-        (change K.taken K.faults out.old out.new) (program_stages name)
-        (IsCounted (F.held files.old) name) result }
-    ensures stays { F.held files.new ≡ F.held files.old }
+    ensures expected { IsTextExpected (change (F.observed files.old) (F.observed files.new))
+        (change (K.observed out.old) (K.observed out.new)) (program_stages name)
+        (IsCounted (F.observed files.old).content name) result }
+    ensures same_files { HasSameContent (change (F.observed files.old) (F.observed files.new)) }
     ensures wants { Wants F.may_want result }
 {
     match load_program(alloc, name, files) {

@@ -2,6 +2,7 @@
 
 ghost use Rattle.std.specs.Prelude.{◌≡◌, ◌<◌, ◌≤◌, ◌*◌, ◌^◌, IfOk, IfErr, OnOk, string_bytes, Bool, ◌||◌};
 ghost use Rattle.p3l_base.specs.Memory.{IfGiven};
+ghost use Rattle.p3l_io.specs.Change.{HasSameContent, change};
 ghost use Rattle.p3l_run.specs.Feed.{most_of_input};
 ghost use Rattle.p3l_run.specs.Network.{IsSound, network};
 ghost use Rattle.p3l_skel.specs.Tree.{node_at};
@@ -9,7 +10,7 @@ ghost use Rattle.p3l_program.specs.LoadImage.{IsReadyImage};
 ghost use Rattle.p3l_program.specs.Plan.{network_in};
 ghost use Rattle.p3l_program.specs.Trace.{IsAgreed, IsCheckExpected, IsCheckOf, IsUntraced, holds_line};
 ghost use Rattle.p3l_program.specs.TraceFile.{HasTrace};
-ghost use Rattle.p3l_program.specs.World.{change, files_change, world};
+ghost use Rattle.p3l_program.specs.World.{world};
 ghost use Rattle.p3l_program.specs.Wants.{Wants};
 
 use crate::file::find_text;
@@ -17,7 +18,7 @@ use crate::plan::{load_network, plan_of};
 use crate::text::write_text;
 use p3l_base::{Name, NoMemory};
 use p3l_io::{Files, Sink, Source};
-use p3l_link::laws::every_linked_net_is_carried;
+use p3l_link::laws::every_linked_net_has_invariants;
 use p3l_load::Loaded;
 use p3l_opts::Build;
 use p3l_report::{Evidence, Finish, Refusal, Verdict};
@@ -34,11 +35,11 @@ pub const TRACE_LIMIT: u64 = 268_435_456;
 
 /// The trace in the file of this name.
 fn load_trace<F: Files>(alloc: Global, name: Name, files: &mut F) -> Result<Traced, Verdict>
-    ensures found { IfOk result (HasTrace (F.held files.old) name) }
-    ensures calm { OnOk result (F.faults files.new ≡ F.faults files.old) }
-    ensures refused { IfErr result (IsUntraced
-        (files_change F.held F.faults F.failed files.old files.new) name) }
-    ensures stays { F.held files.new ≡ F.held files.old }
+    ensures found { IfOk result (HasTrace (F.observed files.old).content name) }
+    ensures unchanged { OnOk result (F.observed files.new ≡ F.observed files.old) }
+    ensures refused { IfErr result
+        (IsUntraced (change (F.observed files.old) (F.observed files.new)) name) }
+    ensures same_files { HasSameContent (change (F.observed files.old) (F.observed files.new)) }
     ensures wants { IfErr result (Wants F.may_want) }
 {
     match find_text(alloc, name, TRACE_LIMIT, files) {
@@ -61,7 +62,8 @@ fn holds_line(alloc: Global, traced: &Traced) -> Result<String, NoMemory>
 
 /// The verdict of a trace of which no line differs, on a stream that ended so, if it did.
 fn agreed<K: Sink>(alloc: Global, traced: &Traced, close: Option<Ending>, out: &mut K) -> Verdict
-    ensures checked { IsAgreed (change K.taken K.faults out.old out.new) traced.now close result }
+    ensures checked { IsAgreed (change (K.observed out.old) (K.observed out.new)) traced.now close
+        result }
     ensures wants { (files : Bool) → Wants files result }
 {
     if let Some(ending) = close
@@ -90,11 +92,10 @@ fn check_plan<U: Units, F: Files, S: Source, K: Sink>(
     requires wide { 1 ≤ plan.width }
     requires fits { plan.firings * most_of_input < 2 ^ 63 }
     ensures checked { IsCheckOf (network plan.entry.tree.now (U.leaf plan.entry.units.now)
-        plan.entry.net plan.entry.firings)
-        (files_change F.held F.faults F.failed files.old files.new)
-        (change S.rest S.faults input.old input.new)
-        (change K.taken K.faults out.old out.new) name result }
-    ensures stays { F.held files.new ≡ F.held files.old }
+        plan.entry.net plan.entry.firings) (change (F.observed files.old) (F.observed files.new))
+        (change (S.observed input.old) (S.observed input.new))
+        (change (K.observed out.old) (K.observed out.new)) name result }
+    ensures same_files { HasSameContent (change (F.observed files.old) (F.observed files.new)) }
     ensures wants { Wants (U.may_want || F.may_want) result }
 {
     let traced = match load_trace(alloc, name, files) {
@@ -119,13 +120,13 @@ fn check_network<F: Files, S: Source, K: Sink>(
 ) -> Verdict
     requires ready { IsReadyImage loaded }
     ensures checked { IsCheckOf (network_in loaded)
-        (files_change F.held F.faults F.failed files.old files.new)
-        (change S.rest S.faults input.old input.new) (change K.taken K.faults out.old out.new)
-        name result }
-    ensures stays { F.held files.new ≡ F.held files.old }
+        (change (F.observed files.old) (F.observed files.new))
+        (change (S.observed input.old) (S.observed input.new))
+        (change (K.observed out.old) (K.observed out.new)) name result }
+    ensures same_files { HasSameContent (change (F.observed files.old) (F.observed files.new)) }
     ensures wants { Wants F.may_want result }
 {
-    every_linked_net_is_carried();
+    every_linked_net_has_invariants();
     let Loaded {
         tree,
         counts,
@@ -151,11 +152,11 @@ pub fn check_trace<F: Files, S: Source, K: Sink>(
 ) -> Verdict
     requires processors { (1 ≤ build.processors) × (build.processors ≤ 512) }
     requires capacity { (1 ≤ build.capacity) × (build.capacity ≤ 1024) }
-    ensures expected { IsCheckExpected (world
-        (files_change F.held F.faults F.failed files.old files.new)
-        (change S.rest S.faults input.old input.new) (change K.taken K.faults out.old out.new))
-        build name result }
-    ensures stays { F.held files.new ≡ F.held files.old }
+    ensures expected { IsCheckExpected
+        (world (change (F.observed files.old) (F.observed files.new))
+        (change (S.observed input.old) (S.observed input.new))
+        (change (K.observed out.old) (K.observed out.new))) build name result }
+    ensures same_files { HasSameContent (change (F.observed files.old) (F.observed files.new)) }
     ensures wants { Wants F.may_want result }
 {
     match load_network(alloc, build, files) {

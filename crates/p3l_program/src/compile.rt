@@ -1,10 +1,10 @@
 // The command `compile`: the image of a program, written to a file.
 
 ghost use Rattle.std.specs.Prelude.{◌≡◌, ◌∷◌, ◌≤◌, []};
+ghost use Rattle.p3l_io.specs.Change.{change};
 ghost use Rattle.p3l_program.specs.Compile.{IsImageOf};
 ghost use Rattle.p3l_program.specs.Saved.{IsFileExpected, KeepsFiles};
 ghost use Rattle.p3l_program.specs.Stage.{build_stages};
-ghost use Rattle.p3l_program.specs.World.{files_change};
 ghost use Rattle.p3l_program.specs.Wants.{Wants};
 
 use crate::plan::{Accepted, Allotted, allot};
@@ -21,11 +21,10 @@ use std::alloc::Global;
 pub fn compile<F: Files>(alloc: Global, build: Build, name: Name, files: &mut F) -> Verdict
     requires processors { (1 ≤ build.processors) × (build.processors ≤ 512) }
     requires capacity { (1 ≤ build.capacity) × (build.capacity ≤ 1024) }
-    ensures expected { IsFileExpected
-        (files_change F.held F.faults F.failed files.old files.new) (build_stages build)
-        name (IsImageOf (F.held files.old) build) result }
-    ensures kept { KeepsFiles
-        (files_change F.held F.faults F.failed files.old files.new) (name ∷ []) result }
+    ensures expected { IsFileExpected (change (F.observed files.old) (F.observed files.new))
+        (build_stages build) name (IsImageOf (F.observed files.old).content build) result }
+    ensures kept { KeepsFiles (change (F.observed files.old) (F.observed files.new)) (name ∷ [])
+        result }
     ensures wants { Wants F.may_want result }
 {
     let capacity = build.capacity;

@@ -1,11 +1,12 @@
 // The command `exec`: an image of a file, run on the input under a schedule.
 
-ghost use Rattle.std.specs.Prelude.{◌≡◌, ◌⊎◌};
+ghost use Rattle.std.specs.Prelude.{◌⊎◌};
 ghost use Rattle.std.specs.Option.{option_to_list};
+ghost use Rattle.p3l_io.specs.Change.{HasSameContent, change};
 ghost use Rattle.p3l_program.specs.Origin.{imaged};
 ghost use Rattle.p3l_program.specs.Run.{IsRunExpected, RunsOver};
 ghost use Rattle.p3l_program.specs.Saved.{KeepsFiles};
-ghost use Rattle.p3l_program.specs.World.{change, files_change, world};
+ghost use Rattle.p3l_program.specs.World.{world};
 ghost use Rattle.p3l_program.specs.Wants.{Wants};
 
 use crate::image::load_image;
@@ -28,17 +29,17 @@ pub fn exec<F: Files, S: Source, K: Sink>(
     input: &mut S,
     out: &mut K,
 ) -> Verdict
-    ensures expected { IsRunExpected (world
-        (files_change F.held F.faults F.failed files.old files.new)
-        (change S.rest S.faults input.old input.new) (change K.taken K.faults out.old out.new))
-        (imaged name) request trace reported result }
-    ensures kept { KeepsFiles
-        (files_change F.held F.faults F.failed files.old files.new) (option_to_list trace)
+    ensures expected { IsRunExpected
+        (world (change (F.observed files.old) (F.observed files.new))
+        (change (S.observed input.old) (S.observed input.new))
+        (change (K.observed out.old) (K.observed out.new))) (imaged name) request trace reported
         result }
-    ensures over { (F.held files.new ≡ F.held files.old)
-        ⊎ RunsOver (world (files_change F.held F.faults F.failed files.old files.new)
-        (change S.rest S.faults input.old input.new) (change K.taken K.faults out.old out.new))
-        (imaged name) request }
+    ensures kept { KeepsFiles (change (F.observed files.old) (F.observed files.new))
+        (option_to_list trace) result }
+    ensures over { HasSameContent (change (F.observed files.old) (F.observed files.new))
+        ⊎ RunsOver (world (change (F.observed files.old) (F.observed files.new))
+        (change (S.observed input.old) (S.observed input.new))
+        (change (K.observed out.old) (K.observed out.new))) (imaged name) request }
     ensures wants { Wants F.may_want result }
 {
     match load_image(alloc, name, files) {

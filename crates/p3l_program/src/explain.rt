@@ -1,10 +1,10 @@
 // The command `explain`: the counts that are chosen for a program, and what they come to.
 
-ghost use Rattle.std.specs.Prelude.{◌≡◌, ◌≤◌};
+ghost use Rattle.std.specs.Prelude.{◌≤◌};
+ghost use Rattle.p3l_io.specs.Change.{HasSameContent, change};
 ghost use Rattle.p3l_program.specs.Text.{IsTextExpected};
 ghost use Rattle.p3l_program.specs.Explain.{IsExplained};
 ghost use Rattle.p3l_program.specs.Stage.{build_stages};
-ghost use Rattle.p3l_program.specs.World.{change, files_change};
 ghost use Rattle.p3l_program.specs.Wants.{Wants};
 
 use crate::plan::allot;
@@ -23,10 +23,10 @@ pub fn explain<F: Files, K: Sink>(
     out: &mut K,
 ) -> Verdict
     requires processors { (1 ≤ build.processors) × (build.processors ≤ 512) }
-    ensures expected { IsTextExpected (files_change F.held F.faults F.failed files.old files.new)
-        (change K.taken K.faults out.old out.new) (build_stages build)
-        (IsExplained (F.held files.old) build) result }
-    ensures stays { F.held files.new ≡ F.held files.old }
+    ensures expected { IsTextExpected (change (F.observed files.old) (F.observed files.new))
+        (change (K.observed out.old) (K.observed out.new)) (build_stages build)
+        (IsExplained (F.observed files.old).content build) result }
+    ensures same_files { HasSameContent (change (F.observed files.old) (F.observed files.new)) }
     ensures wants { Wants F.may_want result }
 {
     let processors = build.processors;

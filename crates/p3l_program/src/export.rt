@@ -3,12 +3,12 @@
 ghost use Rattle.std.specs.Prelude.{◌≡◌, ◌∷◌, ◌≤◌, ◌⊎◌, [], IfOk, OnErr};
 ghost use Rattle.p3l_ast.specs.Tree.{program_tree};
 ghost use Rattle.p3l_base.specs.Memory.{Refused};
+ghost use Rattle.p3l_io.specs.Change.{change};
 ghost use Rattle.p3l_export.specs.Export.{IsCapacity};
 ghost use Rattle.p3l_rewrite.specs.Serving.{MayBeMany};
 ghost use Rattle.p3l_program.specs.Export.{IsExportOf, IsProgramText, MayBeExported, build_of};
 ghost use Rattle.p3l_program.specs.Saved.{IsFileExpected, KeepsFiles};
 ghost use Rattle.p3l_program.specs.Stage.{build_stages};
-ghost use Rattle.p3l_program.specs.World.{files_change};
 ghost use Rattle.p3l_program.specs.Wants.{Wants};
 
 use crate::save::save;
@@ -51,11 +51,11 @@ fn program_text(alloc: Global, priced: &Priced, capacity: Option<u32>) -> Result
 pub fn export<F: Files>(alloc: Global, exported: Exported, name: Name, files: &mut F) -> Verdict
     requires processors { (1 ≤ exported.processors) × (exported.processors ≤ 512) }
     requires capacity { IsCapacity exported.capacity }
-    ensures expected { IsFileExpected
-        (files_change F.held F.faults F.failed files.old files.new) (build_stages (build_of exported))
-        name (IsExportOf (F.held files.old) exported) result }
-    ensures kept { KeepsFiles
-        (files_change F.held F.faults F.failed files.old files.new) (name ∷ []) result }
+    ensures expected { IsFileExpected (change (F.observed files.old) (F.observed files.new))
+        (build_stages (build_of exported)) name (IsExportOf (F.observed files.old).content exported)
+        result }
+    ensures kept { KeepsFiles (change (F.observed files.old) (F.observed files.new)) (name ∷ [])
+        result }
     ensures wants { Wants F.may_want result }
 {
     let capacity = exported.capacity;

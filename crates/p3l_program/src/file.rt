@@ -1,10 +1,10 @@
 // The text of a file.
 
 ghost use Rattle.std.specs.Prelude.{◌≡◌, ◌≤◌, ◌<◌, ◌^◌, IfOk, IfErr, OnOk};
+ghost use Rattle.p3l_io.specs.Change.{HasSameContent, change};
 ghost use Rattle.p3l_program.specs.File.{HasText};
 ghost use Rattle.p3l_program.specs.Load.{IsUnreadable, file_verdict};
 ghost use Rattle.p3l_program.specs.Wants.{Wants};
-ghost use Rattle.p3l_program.specs.World.{files_change};
 
 use p3l_base::{List, Name};
 use p3l_io::{FileFault, Files};
@@ -43,12 +43,12 @@ pub fn find_text<F: Files>(
     limit: u64,
     files: &mut F,
 ) -> Result<List<u8>, FileRefusal>
-    ensures found { IfOk result (λ text. HasText (F.held files.old) limit name text) }
-    ensures calm { OnOk result (F.faults files.new ≡ F.faults files.old) }
-    ensures refused { IfErr result (λ refusal.
-        IsUnreadable
-        (files_change F.held F.faults F.failed files.old files.new) limit name refusal) }
-    ensures stays { F.held files.new ≡ F.held files.old }
+    ensures found { IfOk result (λ text. HasText (F.observed files.old).content limit name text) }
+    ensures unchanged { OnOk result (F.observed files.new ≡ F.observed files.old) }
+    ensures refused { IfErr result
+        (λ refusal. IsUnreadable (change (F.observed files.old) (F.observed files.new)) limit name
+        refusal) }
+    ensures same_files { HasSameContent (change (F.observed files.old) (F.observed files.new)) }
     ensures wants { IfErr result (λ refusal. Wants F.may_want (file_verdict refusal)) }
 {
     match files.read(alloc, name.as_str(), limit) {

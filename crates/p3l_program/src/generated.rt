@@ -3,14 +3,14 @@
 ghost use Rattle.std.specs.Prelude.{◌≡◌, ◌≢◌, ◌++◌, ◌≤◌, ◌<◌, ◌^◌, ◌⊎◌, length, IfOk, IfErr, string_bytes, Bool};
 ghost use Rattle.p3l_base.specs.Memory.{IfGiven};
 ghost use Rattle.p3l_check.specs.Resolving.{ResolvedTree};
+ghost use Rattle.p3l_io.specs.Change.{change};
 ghost use Rattle.p3l_opts.specs.Command.{IsMade};
 ghost use Rattle.p3l_report.specs.declared.verdict.Verdict.TheVariants as verdict;
 ghost use Rattle.p3l_program.specs.Plan.{IsCompiled, network_of};
 ghost use Rattle.p3l_program.specs.File.{text_limit};
-ghost use Rattle.p3l_program.specs.Generated.{AreNotLoaded, AreTextsOf, Gen, IsGenExpected, IsGenRun, IsGenUnsaved, IsLineOf, IsPicked, IsRanUnder, LoadsTexts, comes_whole, gen_capacity, gen_of, line_at, numbers_text, saves_for, saves_with, summary_line};
+ghost use Rattle.p3l_program.specs.Generated.{AreNotLoaded, AreTextsOf, Gen, IsGenExpected, IsGenRun, IsGenUnsaved, IsLineOf, IsPicked, IsRanUnder, LoadsTexts, comes_whole, gen_capacity, gen_of, line_at, saves_for, saves_with, summary_line};
 ghost use Rattle.p3l_program.specs.Load.{IsReady};
 ghost use Rattle.p3l_program.specs.Saved.{HasSave, HasSaves};
-ghost use Rattle.p3l_program.specs.World.{change, files_change};
 ghost use Rattle.p3l_program.specs.Wants.{Wants};
 
 use crate::memory::{NoSink, TextSource};
@@ -24,18 +24,19 @@ use p3l_compile::table_of;
 use p3l_cost::read_costs;
 use p3l_gen::{Generated, generate};
 use p3l_io::{Files, Sink};
-use p3l_link::laws::every_linked_net_is_carried;
+use p3l_link::laws::every_linked_net_has_invariants;
 use p3l_link::link;
 use p3l_opts::Sched;
+use p3l_report::line::numbers_text;
 use p3l_report::{Finish, Refusal, Verdict};
 use p3l_run::run::run;
 use p3l_run::write::write;
-use p3l_run::{Keeping, Ran, RunEnd, RunStats};
+use p3l_run::{Keeping, Ran, RunEnd};
 use p3l_sched::Schedule;
 use p3l_stream::Ending;
 use std::alloc::Global;
 
-/// How many tokens a channel of the network holds at most.
+/// The most tokens that a channel of the network holds.
 const CAPACITY: u32 = 4;
 
 /// The name that begins with one text and ends with another.
@@ -55,8 +56,8 @@ fn save_as<F: Files>(
     text: &[u8],
     files: &mut F,
 ) -> Result<(), Verdict>
-    ensures saved { HasSave (files_change F.held F.faults F.failed files.old files.new) (prefix.now
-        ++ suffix.now) text.now result }
+    ensures saved { HasSave (change (F.observed files.old) (F.observed files.new))
+        (prefix.now ++ suffix.now) text.now result }
     ensures wants { IfErr result (Wants F.may_want) }
 {
     match name_with(alloc, prefix, suffix) {
@@ -72,7 +73,7 @@ fn save_texts<F: Files>(
     texts: &Generated,
     files: &mut F,
 ) -> Result<(), Verdict>
-    ensures saved { HasSaves (files_change F.held F.faults F.failed files.old files.new)
+    ensures saved { HasSaves (change (F.observed files.old) (F.observed files.new))
         (saves_for prefix.now texts.now.program texts.now.costs texts.now.stream) result }
     ensures wants { IfErr result (Wants F.may_want) }
 {
@@ -88,7 +89,7 @@ fn save_where<F: Files>(
     texts: &Generated,
     files: &mut F,
 ) -> Result<(), Verdict>
-    ensures saved { HasSaves (files_change F.held F.faults F.failed files.old files.new)
+    ensures saved { HasSaves (change (F.observed files.old) (F.observed files.new))
         (saves_with prefix texts.now.program texts.now.costs texts.now.stream) result }
     ensures wants { IfErr result (Wants F.may_want) }
 {
@@ -157,7 +158,7 @@ fn run_text(alloc: Global, loaded: Allotted, request: Sched, text: List<u8>) -> 
     ensures wanting { IfErr result (λ v. v ≡ verdict.NoMemory) }
     ensures wants { (files : Bool) → IfErr result (Wants files) }
 {
-    every_linked_net_is_carried();
+    every_linked_net_has_invariants();
     let Allotted {
         program,
         choice,
@@ -184,17 +185,6 @@ fn run_text(alloc: Global, loaded: Allotted, request: Sched, text: List<u8>) -> 
         Ok(ran) => Ok(ran),
         Err(fault) => Err(fault_verdict(fault)),
     }
-}
-
-/// The numbers of a run, as the line has them.
-fn numbers_text(alloc: Global, numbers: &RunStats) -> Result<String, NoMemory>
-    ensures { IfGiven result (λ text. string_bytes text ≡ numbers_text numbers.now) }
-{
-    let items = numbers.items;
-    let fired = numbers.fired;
-    let idle = numbers.idle;
-    let bound = numbers.bound;
-    Ok(format!(in alloc; "items {items}, fired {fired}, idle {idle}, bound {bound}")?)
 }
 
 /// The line of a run of the texts of a number, with the service time and the processes of the counts.
@@ -230,7 +220,7 @@ fn put_summary<K: Sink>(
     used: u32,
     out: &mut K,
 ) -> Verdict
-    ensures put { IsLineOf (change K.taken K.faults out.old out.new) ran.finish
+    ensures put { IsLineOf (change (K.observed out.old) (K.observed out.new)) ran.finish
         (line_at ran.finish (summary_line number ran.stats service used ran.sum)) result }
     ensures wants { (files : Bool) → Wants files result }
 {
@@ -260,7 +250,8 @@ fn run_texts<K: Sink>(
     requires within { length texts.program ≤ text_limit }
     requires short { length texts.stream < 2 ^ 36 }
     ensures ran { (g : Gen) → AreTextsOf g texts → g.number ≡ number → g.processors ≡ processors
-        → g.request ≡ request → IsGenRun (change K.taken K.faults out.old out.new) g result }
+        → g.request ≡ request → IsGenRun (change (K.observed out.old) (K.observed out.new)) g
+        result }
     ensures wants { (files : Bool) → Wants files result }
 {
     let Generated {
@@ -295,12 +286,12 @@ pub fn run_generated<F: Files, K: Sink>(
     requires processors { (1 ≤ processors) × (processors ≤ 512) }
     requires items { items ≤ 100000 }
     requires made { IsMade request }
-    ensures expected { IsGenExpected (files_change F.held F.faults F.failed files.old files.new)
-        (change K.taken K.faults out.old out.new) (gen_of number processors items request prefix)
-        result
-        ⊎ IsGenUnsaved (files_change F.held F.faults F.failed files.old files.new)
-        (change K.taken K.faults out.old out.new) (gen_of number processors items request prefix)
-        result }
+    ensures expected { IsGenExpected (change (F.observed files.old) (F.observed files.new))
+        (change (K.observed out.old) (K.observed out.new))
+        (gen_of number processors items request prefix) result
+        ⊎ IsGenUnsaved (change (F.observed files.old) (F.observed files.new))
+        (change (K.observed out.old) (K.observed out.new))
+        (gen_of number processors items request prefix) result }
     ensures wants { Wants F.may_want result }
 {
     let Ok(texts) = generate(alloc, number, items) else {

@@ -1,13 +1,13 @@
 // Loading the image that a command runs.
 
 ghost use Rattle.std.specs.Prelude.{◌≡◌, ◌≤◌, IfOk, IfErr, OnOk, Bool};
+ghost use Rattle.p3l_io.specs.Change.{HasSameContent, change};
 ghost use Rattle.p3l_program.specs.Load.{IsNotLoaded, LoadsNetwork};
 ghost use Rattle.p3l_program.specs.LoadImage.{IsReadyImage, IsUnloadable, LoadsBytes};
 ghost use Rattle.p3l_program.specs.Origin.{imaged};
 ghost use Rattle.p3l_program.specs.Plan.{network_in};
 ghost use Rattle.p3l_program.specs.Migrate.{Migrates};
 ghost use Rattle.p3l_program.specs.Stage.{image_stages, migrate_stages};
-ghost use Rattle.p3l_program.specs.World.{files_change};
 ghost use Rattle.p3l_program.specs.Wants.{Wants};
 
 use crate::file::find_text;
@@ -39,14 +39,13 @@ pub fn load_bytes(alloc: Global, bytes: &[u8]) -> Result<Loaded, Verdict>
 
 /// The image of the file of this name, if it can be run; else the verdict that it can't.
 pub fn load_image<F: Files>(alloc: Global, name: Name, files: &mut F) -> Result<Loaded, Verdict>
-    ensures network { IfOk result (λ loaded. LoadsNetwork (F.held files.old) (imaged name)
-        (network_in loaded)) }
+    ensures network { IfOk result
+        (λ loaded. LoadsNetwork (F.observed files.old).content (imaged name) (network_in loaded)) }
     ensures ready { IfOk result IsReadyImage }
-    ensures calm { OnOk result (F.faults files.new ≡ F.faults files.old) }
-    ensures refused { IfErr result (IsNotLoaded
-        (files_change F.held F.faults F.failed files.old files.new)
-        (image_stages name)) }
-    ensures stays { F.held files.new ≡ F.held files.old }
+    ensures unchanged { OnOk result (F.observed files.new ≡ F.observed files.old) }
+    ensures refused { IfErr result
+        (IsNotLoaded (change (F.observed files.old) (F.observed files.new)) (image_stages name)) }
+    ensures same_files { HasSameContent (change (F.observed files.old) (F.observed files.new)) }
     ensures wants { IfErr result (Wants F.may_want) }
 {
     match find_text(alloc, name, IMAGE_LIMIT, files) {
@@ -58,12 +57,11 @@ pub fn load_image<F: Files>(alloc: Global, name: Name, files: &mut F) -> Result<
 /// The image of the file of this name with its net linked anew, if it can be run so; else the verdict
 /// that it can't.
 pub fn migrate_image<F: Files>(alloc: Global, name: Name, files: &mut F) -> Result<Image, Verdict>
-    ensures migrated { IfOk result (Migrates (F.held files.old) name) }
-    ensures calm { OnOk result (F.faults files.new ≡ F.faults files.old) }
-    ensures refused { IfErr result (IsNotLoaded
-        (files_change F.held F.faults F.failed files.old files.new)
-        (migrate_stages name)) }
-    ensures stays { F.held files.new ≡ F.held files.old }
+    ensures migrated { IfOk result (Migrates (F.observed files.old).content name) }
+    ensures unchanged { OnOk result (F.observed files.new ≡ F.observed files.old) }
+    ensures refused { IfErr result
+        (IsNotLoaded (change (F.observed files.old) (F.observed files.new)) (migrate_stages name)) }
+    ensures same_files { HasSameContent (change (F.observed files.old) (F.observed files.new)) }
     ensures wants { IfErr result (Wants F.may_want) }
 {
     let bytes = match find_text(alloc, name, IMAGE_LIMIT, files) {

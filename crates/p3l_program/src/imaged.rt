@@ -2,6 +2,7 @@
 
 ghost use Rattle.std.specs.Prelude.{◌≡◌, ◌≤◌, ◌⊎◌, IfOk, IfErr, OnOk};
 ghost use Rattle.p3l_base.specs.Memory.{IfGivenOr};
+ghost use Rattle.p3l_io.specs.Change.{HasSameContent, change};
 ghost use Rattle.p3l_load.specs.Compiled.{AreCodesOf, IsImageText, image_of};
 ghost use Rattle.p3l_resume.specs.Ranges.{IsFew};
 ghost use Rattle.p3l_skel.specs.Counts.{HasLawfulCounts};
@@ -9,7 +10,6 @@ ghost use Rattle.p3l_skel.specs.Numbers.{procs};
 ghost use Rattle.p3l_program.specs.Load.{IsNotLoaded};
 ghost use Rattle.p3l_program.specs.SaveState.{HasLongImage, IsImagedAs, IsLongImage, IsReadyToSave, LoadsImaged};
 ghost use Rattle.p3l_program.specs.Stage.{build_stages};
-ghost use Rattle.p3l_program.specs.World.{files_change};
 ghost use Rattle.p3l_program.specs.Wants.{Wants};
 
 use crate::plan::{Accepted, Allotted, allot};
@@ -108,15 +108,14 @@ fn image_allotted(alloc: Global, loaded: Allotted, capacity: u32) -> Result<Imag
 pub fn load_imaged<F: Files>(alloc: Global, build: Build, files: &mut F) -> Result<Imaged, Verdict>
     requires processors { (1 ≤ build.processors) × (build.processors ≤ 512) }
     requires capacity { (1 ≤ build.capacity) × (build.capacity ≤ 1024) }
-    ensures loaded { IfOk result (LoadsImaged (F.held files.old) build) }
+    ensures loaded { IfOk result (LoadsImaged (F.observed files.old).content build) }
     ensures ready { IfOk result IsReadyToSave }
-    ensures calm { OnOk result (F.faults files.new ≡ F.faults files.old) }
-    ensures refused { IfErr result (IsNotLoaded
-        (files_change F.held F.faults F.failed files.old files.new)
-        (build_stages build)) }
-    ensures stays { F.held files.new ≡ F.held files.old }
+    ensures unchanged { OnOk result (F.observed files.new ≡ F.observed files.old) }
+    ensures refused { IfErr result
+        (IsNotLoaded (change (F.observed files.old) (F.observed files.new)) (build_stages build)) }
+    ensures same_files { HasSameContent (change (F.observed files.old) (F.observed files.new)) }
     ensures wants { IfErr result (λ v. Wants F.may_want v
-        ⊎ HasLongImage (F.held files.old) build) }
+        ⊎ HasLongImage (F.observed files.old).content build) }
 {
     let capacity = build.capacity;
     let allotted = allot(alloc, build, files)?;

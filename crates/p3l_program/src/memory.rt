@@ -2,6 +2,7 @@
 
 ghost use Rattle.std.specs.Prelude.{◌≡◌, ◌<◌, ◌≤◌, None, Some, length, IfOk};
 ghost use Rattle.p3l_io.specs.Causes.{HasCause};
+ghost use Rattle.p3l_io.specs.Change.{stream};
 ghost use Rattle.p3l_io.specs.Content.{Puts, Takes};
 
 use p3l_base::List;
@@ -35,9 +36,7 @@ impl TextSource {
 }
 
 impl Source for TextSource {
-    ghost rest = { λ rest. Some rest };
-
-    ghost faults = { λ _. 0 };
+    ghost observed = { λ rest. stream (Some rest) 0 };
 
     fn take(&mut self, buf: &mut [u8]) -> Result<usize, Failed> {
         let rest = &self.bytes.as_slice()[self.at..];
@@ -53,9 +52,7 @@ impl Source for TextSource {
 pub struct NoSink;
 
 impl Sink for NoSink {
-    ghost taken = { λ _. None };
-
-    ghost faults = { λ _. 0 };
+    ghost observed = { λ _. stream None 0 };
 
     fn put(&mut self, _piece: &[u8]) -> Result<(), Failed> {
         Ok(())

@@ -1,10 +1,10 @@
 // The command `migrate`: an image in the newest version, with its net linked anew.
 
 ghost use Rattle.std.specs.Prelude.{◌≡◌, ◌∷◌, []};
+ghost use Rattle.p3l_io.specs.Change.{change};
 ghost use Rattle.p3l_program.specs.Migrate.{IsMigrated};
 ghost use Rattle.p3l_program.specs.Saved.{IsFileExpected, KeepsFiles};
 ghost use Rattle.p3l_program.specs.Stage.{migrate_stages};
-ghost use Rattle.p3l_program.specs.World.{files_change};
 ghost use Rattle.p3l_program.specs.Wants.{Wants};
 
 use crate::image::migrate_image;
@@ -19,12 +19,10 @@ use std::alloc::Global;
 /// Writes the image of a file in the newest version, with its net linked anew, to the file of another
 /// name.
 pub fn migrate<F: Files>(alloc: Global, name: Name, output: Name, files: &mut F) -> Verdict
-    ensures expected { IsFileExpected
-        (files_change F.held F.faults F.failed files.old files.new) (migrate_stages name)
-        output
-        (IsMigrated (F.held files.old) name) result }
-    ensures kept { KeepsFiles
-        (files_change F.held F.faults F.failed files.old files.new) (output ∷ []) result }
+    ensures expected { IsFileExpected (change (F.observed files.old) (F.observed files.new))
+        (migrate_stages name) output (IsMigrated (F.observed files.old).content name) result }
+    ensures kept { KeepsFiles (change (F.observed files.old) (F.observed files.new)) (output ∷ [])
+        result }
     ensures wants { Wants F.may_want result }
 {
     every_migrated_image_can_be_written();

@@ -2,10 +2,10 @@
 
 ghost use Rattle.std.specs.Prelude.{◌≡◌, ◌++◌, IfErr};
 ghost use Rattle.p3l_base.specs.Memory.{IfGiven, OnGiven};
+ghost use Rattle.p3l_io.specs.Change.{change};
 ghost use Rattle.p3l_trace.specs.Agreement.{picks_of};
 ghost use Rattle.p3l_program.specs.Picks.{IsPicking, mark_before, picks_text};
 ghost use Rattle.p3l_program.specs.Saved.{HasSave};
-ghost use Rattle.p3l_program.specs.World.{files_change};
 ghost use Rattle.p3l_program.specs.Wants.{Wants};
 
 use crate::save::save;
@@ -51,8 +51,8 @@ fn save_lines<F: Files>(
     lines: &[TraceLine],
     files: &mut F,
 ) -> Result<(), Verdict>
-    ensures saved { HasSave (files_change F.held F.faults F.failed files.old files.new)
-        name.now (picks_text (picks_of lines.now)) result }
+    ensures saved { HasSave (change (F.observed files.old) (F.observed files.new)) name.now
+        (picks_text (picks_of lines.now)) result }
     ensures wants { IfErr result (Wants F.may_want) }
 {
     match picks_text(alloc, lines) {
@@ -68,8 +68,8 @@ pub fn save_picks<F: Files>(
     lines: Option<List<TraceLine>>,
     files: &mut F,
 ) -> Result<(), Verdict>
-    ensures saved { IsPicking (files_change F.held F.faults F.failed files.old files.new)
-        name lines result }
+    ensures saved { IsPicking (change (F.observed files.old) (F.observed files.new)) name lines
+        result }
     ensures wants { IfErr result (Wants F.may_want) }
 {
     let Some(name) = name else {

@@ -4,6 +4,7 @@
 ghost use Rattle.std.specs.Prelude.{◌≡◌, ◌<◌, ◌≤◌, ◌*◌, ◌^◌, length, IfOk, IfErr, OnOk};
 ghost use Rattle.p3l_base.specs.Memory.{IfGiven};
 ghost use Rattle.p3l_check.specs.Resolving.{ResolvedTree};
+ghost use Rattle.p3l_io.specs.Change.{HasSameContent, change};
 ghost use Rattle.p3l_model.specs.Optimal.{IsChosen};
 ghost use Rattle.p3l_model.specs.Service.{service};
 ghost use Rattle.p3l_run.specs.Feed.{most_of_input};
@@ -19,7 +20,6 @@ ghost use Rattle.p3l_program.specs.Origin.{built};
 ghost use Rattle.p3l_program.specs.Plan.{IsCompiled, IsTextRefused, network_in, network_of};
 ghost use Rattle.p3l_program.specs.Stage.{build_stages, program_stages};
 ghost use Rattle.p3l_program.specs.Time.{LoadsLinked};
-ghost use Rattle.p3l_program.specs.World.{files_change};
 ghost use Rattle.p3l_program.specs.Wants.{Wants};
 
 use crate::file::{TEXT_LIMIT, find_text};
@@ -68,12 +68,11 @@ pub fn accept(alloc: Global, text: &[u8]) -> Result<Accepted, SourceRefusal>
 
 /// The program of the file of this name, or the verdict that there is none.
 pub fn load_program<F: Files>(alloc: Global, name: Name, files: &mut F) -> Result<Accepted, Verdict>
-    ensures loaded { IfOk result (LoadsProgram (F.held files.old) name) }
-    ensures calm { OnOk result (F.faults files.new ≡ F.faults files.old) }
-    ensures refused { IfErr result (IsNotLoaded
-        (files_change F.held F.faults F.failed files.old files.new)
-        (program_stages name)) }
-    ensures stays { F.held files.new ≡ F.held files.old }
+    ensures loaded { IfOk result (LoadsProgram (F.observed files.old).content name) }
+    ensures unchanged { OnOk result (F.observed files.new ≡ F.observed files.old) }
+    ensures refused { IfErr result
+        (IsNotLoaded (change (F.observed files.old) (F.observed files.new)) (program_stages name)) }
+    ensures same_files { HasSameContent (change (F.observed files.old) (F.observed files.new)) }
     ensures wants { IfErr result (Wants F.may_want) }
 {
     match find_text(alloc, name, TEXT_LIMIT, files) {
@@ -96,12 +95,11 @@ fn costs_in<F: Files>(
     files: &mut F,
 ) -> Result<Costs, Verdict>
     requires lawful { IsLawfulTree tree.now }
-    ensures loaded { IfOk result (LoadsCosts (F.held files.old) (Some name) tree.now) }
-    ensures calm { OnOk result (F.faults files.new ≡ F.faults files.old) }
-    ensures refused { IfErr result (IsCostless
-        (files_change F.held F.faults F.failed files.old files.new)
-        (Some name) tree.now) }
-    ensures stays { F.held files.new ≡ F.held files.old }
+    ensures loaded { IfOk result (LoadsCosts (F.observed files.old).content (Some name) tree.now) }
+    ensures unchanged { OnOk result (F.observed files.new ≡ F.observed files.old) }
+    ensures refused { IfErr result
+        (IsCostless (change (F.observed files.old) (F.observed files.new)) (Some name) tree.now) }
+    ensures same_files { HasSameContent (change (F.observed files.old) (F.observed files.new)) }
     ensures wants { IfErr result (Wants F.may_want) }
 {
     match find_text(alloc, name, TEXT_LIMIT, files) {
@@ -121,12 +119,11 @@ pub fn load_costs<F: Files>(
     files: &mut F,
 ) -> Result<Costs, Verdict>
     requires lawful { IsLawfulTree tree.now }
-    ensures loaded { IfOk result (LoadsCosts (F.held files.old) name tree.now) }
-    ensures calm { OnOk result (F.faults files.new ≡ F.faults files.old) }
-    ensures refused { IfErr result (IsCostless
-        (files_change F.held F.faults F.failed files.old files.new)
-        name tree.now) }
-    ensures stays { F.held files.new ≡ F.held files.old }
+    ensures loaded { IfOk result (LoadsCosts (F.observed files.old).content name tree.now) }
+    ensures unchanged { OnOk result (F.observed files.new ≡ F.observed files.old) }
+    ensures refused { IfErr result
+        (IsCostless (change (F.observed files.old) (F.observed files.new)) name tree.now) }
+    ensures same_files { HasSameContent (change (F.observed files.old) (F.observed files.new)) }
     ensures wants { IfErr result (Wants F.may_want) }
 {
     match name {
@@ -157,7 +154,7 @@ pub fn choose_counts<F: Files>(
     requires lawful { IsLawfulTree tree.now }
     requires some { 1 ≤ processors }
     requires few { processors ≤ 512 }
-    ensures costs { IfOk result (λ chosen. LoadsCosts (F.held files.old) name tree.now
+    ensures costs { IfOk result (λ chosen. LoadsCosts (F.observed files.old).content name tree.now
         chosen.costs) }
     ensures chosen { IfOk result (λ chosen.
         IsChosen tree.now chosen.costs processors chosen.choice.counts.list) }
@@ -165,11 +162,11 @@ pub fn choose_counts<F: Files>(
         chosen.choice.service ≡ service tree.now chosen.costs chosen.choice.counts.list 0) }
     ensures used { IfOk result (λ chosen.
         chosen.choice.used ≡ procs tree.now chosen.choice.counts.list 0) }
-    ensures calm { OnOk result (F.faults files.new ≡ F.faults files.old) }
-    ensures refused { IfErr result (IsUnchosen
-        (files_change F.held F.faults F.failed files.old files.new)
-        name tree.now processors) }
-    ensures stays { F.held files.new ≡ F.held files.old }
+    ensures unchanged { OnOk result (F.observed files.new ≡ F.observed files.old) }
+    ensures refused { IfErr result
+        (IsUnchosen (change (F.observed files.old) (F.observed files.new)) name tree.now
+        processors) }
+    ensures same_files { HasSameContent (change (F.observed files.old) (F.observed files.new)) }
     ensures wants { IfErr result (Wants F.may_want) }
 {
     let costs = load_costs(alloc, name, tree, files)?;
@@ -192,12 +189,11 @@ pub struct Allotted {
 pub fn allot<F: Files>(alloc: Global, build: Build, files: &mut F) -> Result<Allotted, Verdict>
     requires some { 1 ≤ build.processors }
     requires few { build.processors ≤ 512 }
-    ensures loaded { IfOk result (Loads (F.held files.old) build) }
-    ensures calm { OnOk result (F.faults files.new ≡ F.faults files.old) }
-    ensures refused { IfErr result (IsNotLoaded
-        (files_change F.held F.faults F.failed files.old files.new)
-        (build_stages build)) }
-    ensures stays { F.held files.new ≡ F.held files.old }
+    ensures loaded { IfOk result (Loads (F.observed files.old).content build) }
+    ensures unchanged { OnOk result (F.observed files.new ≡ F.observed files.old) }
+    ensures refused { IfErr result
+        (IsNotLoaded (change (F.observed files.old) (F.observed files.new)) (build_stages build)) }
+    ensures same_files { HasSameContent (change (F.observed files.old) (F.observed files.new)) }
     ensures wants { IfErr result (Wants F.may_want) }
 {
     let processors = build.processors;
@@ -252,13 +248,12 @@ fn link_allotted(alloc: Global, loaded: Allotted, capacity: u32) -> Result<Linke
 pub fn load_linked<F: Files>(alloc: Global, build: Build, files: &mut F) -> Result<Linked, Verdict>
     requires processors { (1 ≤ build.processors) × (build.processors ≤ 512) }
     requires capacity { (1 ≤ build.capacity) × (build.capacity ≤ 1024) }
-    ensures loaded { IfOk result (LoadsLinked (F.held files.old) build) }
+    ensures loaded { IfOk result (LoadsLinked (F.observed files.old).content build) }
     ensures ready { IfOk result (λ linked. IsReadyImage linked.network) }
-    ensures calm { OnOk result (F.faults files.new ≡ F.faults files.old) }
-    ensures refused { IfErr result (IsNotLoaded
-        (files_change F.held F.faults F.failed files.old files.new)
-        (build_stages build)) }
-    ensures stays { F.held files.new ≡ F.held files.old }
+    ensures unchanged { OnOk result (F.observed files.new ≡ F.observed files.old) }
+    ensures refused { IfErr result
+        (IsNotLoaded (change (F.observed files.old) (F.observed files.new)) (build_stages build)) }
+    ensures same_files { HasSameContent (change (F.observed files.old) (F.observed files.new)) }
     ensures wants { IfErr result (Wants F.may_want) }
 {
     let capacity = build.capacity;
@@ -273,14 +268,13 @@ pub fn load_linked<F: Files>(alloc: Global, build: Build, files: &mut F) -> Resu
 pub fn load_network<F: Files>(alloc: Global, build: Build, files: &mut F) -> Result<Loaded, Verdict>
     requires processors { (1 ≤ build.processors) × (build.processors ≤ 512) }
     requires capacity { (1 ≤ build.capacity) × (build.capacity ≤ 1024) }
-    ensures network { IfOk result (λ loaded. LoadsNetwork (F.held files.old) (built build)
-        (network_in loaded)) }
+    ensures network { IfOk result
+        (λ loaded. LoadsNetwork (F.observed files.old).content (built build) (network_in loaded)) }
     ensures ready { IfOk result IsReadyImage }
-    ensures calm { OnOk result (F.faults files.new ≡ F.faults files.old) }
-    ensures refused { IfErr result (IsNotLoaded
-        (files_change F.held F.faults F.failed files.old files.new)
-        (build_stages build)) }
-    ensures stays { F.held files.new ≡ F.held files.old }
+    ensures unchanged { OnOk result (F.observed files.new ≡ F.observed files.old) }
+    ensures refused { IfErr result
+        (IsNotLoaded (change (F.observed files.old) (F.observed files.new)) (build_stages build)) }
+    ensures same_files { HasSameContent (change (F.observed files.old) (F.observed files.new)) }
     ensures wants { IfErr result (Wants F.may_want) }
 {
     match load_linked(alloc, build, files) {
@@ -289,7 +283,7 @@ pub fn load_network<F: Files>(alloc: Global, build: Build, files: &mut F) -> Res
     }
 }
 
-/// How many words an item of a tree has.
+/// The number of words of an item of a tree.
 fn width_of(tree: &Tree) -> u32
     ensures { result ≡ (node_at tree.now 0).ins }
 {

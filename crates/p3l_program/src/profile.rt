@@ -3,12 +3,13 @@
 ghost use Rattle.std.specs.Prelude.{◌≡◌, Bool};
 ghost use Rattle.p3l_base.specs.Memory.{IfGiven};
 ghost use Rattle.std.specs.List.{All};
+ghost use Rattle.p3l_io.specs.Change.{HasSameContent, change};
 ghost use Rattle.p3l_skel.specs.Lawful.{IsLawfulTree};
 ghost use Rattle.p3l_units.specs.Table.{HasCode};
 ghost use Rattle.p3l_run.specs.Run.{module_name};
 ghost use Rattle.p3l_run.specs.declared.sampling.Sampled.TheVariants as sampled;
 ghost use Rattle.p3l_program.specs.Profile.{IsClosedProfile, IsProfileExpected, IsProfileOf, coded};
-ghost use Rattle.p3l_program.specs.World.{change, files_change, world};
+ghost use Rattle.p3l_program.specs.World.{world};
 ghost use Rattle.p3l_program.specs.Wants.{Wants};
 
 use crate::plan::{Accepted, load_program};
@@ -43,7 +44,7 @@ fn close<K: Sink>(
     out: &mut K,
 ) -> Verdict
     ensures closed { IsClosedProfile tree.now profile.now.greatest (sampled.Stream ending)
-        (change K.taken K.faults out.old out.new) result }
+        (change (K.observed out.old) (K.observed out.new)) result }
     ensures wants { (files : Bool) → Wants files result }
 {
     if ending != Ending::End {
@@ -64,7 +65,7 @@ fn finish<K: Sink>(
     out: &mut K,
 ) -> Verdict
     ensures closed { IsClosedProfile tree.now profile.now.greatest sampled
-        (change K.taken K.faults out.old out.new) result }
+        (change (K.observed out.old) (K.observed out.new)) result }
     ensures wants { (files : Bool) → Wants files result }
 {
     match sampled {
@@ -86,8 +87,9 @@ fn profile_tree<S: Source, K: Sink>(
 ) -> Verdict
     requires lawful { IsLawfulTree tree.now }
     requires codes { All (HasCode (record { tree = tree.now; codes = codes.now })) tree.now.nodes }
-    ensures profiled { IsProfileOf (coded tree.now codes.now) (change S.rest S.faults input.old input.new)
-        (change K.taken K.faults out.old out.new) result }
+    ensures profiled { IsProfileOf (coded tree.now codes.now)
+        (change (S.observed input.old) (S.observed input.new))
+        (change (K.observed out.old) (K.observed out.new)) result }
     ensures wants { (files : Bool) → Wants files result }
 {
     a_profile_has_the_greatest();
@@ -108,11 +110,11 @@ pub fn profile<F: Files, S: Source, K: Sink>(
     input: &mut S,
     out: &mut K,
 ) -> Verdict
-    ensures expected { IsProfileExpected (world
-        (files_change F.held F.faults F.failed files.old files.new)
-        (change S.rest S.faults input.old input.new) (change K.taken K.faults out.old out.new))
-        name result }
-    ensures stays { F.held files.new ≡ F.held files.old }
+    ensures expected { IsProfileExpected
+        (world (change (F.observed files.old) (F.observed files.new))
+        (change (S.observed input.old) (S.observed input.new))
+        (change (K.observed out.old) (K.observed out.new))) name result }
+    ensures same_files { HasSameContent (change (F.observed files.old) (F.observed files.new)) }
     ensures wants { Wants F.may_want result }
 {
     match load_program(alloc, name, files) {

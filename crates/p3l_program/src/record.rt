@@ -1,10 +1,10 @@
 // The trace of a run, in a file.
 
 ghost use Rattle.std.specs.Prelude.{◌≡◌, true, OnOk, IfErr};
+ghost use Rattle.p3l_io.specs.Change.{change};
 ghost use Rattle.p3l_trace.specs.Text.{trace_format};
 ghost use Rattle.p3l_program.specs.Recorded.{IsRecording};
 ghost use Rattle.p3l_program.specs.Saved.{HasSave};
-ghost use Rattle.p3l_program.specs.World.{files_change};
 ghost use Rattle.p3l_program.specs.Wants.{Wants};
 
 use crate::save::save;
@@ -22,8 +22,8 @@ fn save_trace<F: Files>(
     traced: &Traced,
     files: &mut F,
 ) -> Result<(), Verdict>
-    ensures saved { HasSave (files_change F.held F.faults F.failed files.old files.new)
-        name.now (trace_format.spell traced.now) result }
+    ensures saved { HasSave (change (F.observed files.old) (F.observed files.new)) name.now
+        (trace_format.spell traced.now) result }
     ensures fits { OnOk result (trace_format.fits traced.now ≡ true) }
     ensures wants { IfErr result (Wants F.may_want) }
 {
@@ -42,8 +42,8 @@ pub fn record<F: Files>(
     stats: &RunStats,
     files: &mut F,
 ) -> Result<(), Verdict>
-    ensures recorded { IsRecording (files_change F.held F.faults F.failed files.old files.new)
-        trace lines stats.now result }
+    ensures recorded { IsRecording (change (F.observed files.old) (F.observed files.new)) trace
+        lines stats.now result }
     ensures wants { IfErr result (Wants F.may_want) }
 {
     let Some(name) = trace else {

@@ -1,6 +1,7 @@
 // The command `resume`: the image of a snapshot, run on the input from the state that was saved.
 
 ghost use Rattle.std.specs.Prelude.{◌≡◌, ◌≤◌, ◌⊎◌, [], None, ◌||◌};
+ghost use Rattle.p3l_io.specs.Change.{HasSameContent, change};
 ghost use Rattle.p3l_run.specs.Network.{network, resumed};
 ghost use Rattle.p3l_run.specs.Resume.{IsResumable, IsResumedBy};
 ghost use Rattle.p3l_run.specs.Start.{Resumption};
@@ -10,17 +11,17 @@ ghost use Rattle.p3l_program.specs.Origin.{continued};
 ghost use Rattle.p3l_program.specs.Plan.{continued_network};
 ghost use Rattle.p3l_program.specs.Run.{IsRunExpected, IsRunOf, KeepsRun, RunsOver};
 ghost use Rattle.p3l_program.specs.Saved.{KeepsFiles};
-ghost use Rattle.p3l_program.specs.World.{change, files_change, world};
+ghost use Rattle.p3l_program.specs.World.{world};
 ghost use Rattle.p3l_program.specs.Wants.{Wants};
 
 use crate::plan::plan_of;
 use crate::running::close;
 use crate::schedule::load_schedule;
-use crate::snapshot::{Snapshot, load_snapshot};
+use crate::snapshot::{ResumableNetwork, load_snapshot};
 use crate::verdict::fault_verdict;
 use p3l_base::Name;
 use p3l_io::{Files, Sink, Source};
-use p3l_link::laws::every_linked_net_is_carried;
+use p3l_link::laws::every_linked_net_has_invariants;
 use p3l_load::Loaded;
 use p3l_net::Shot;
 use p3l_opts::Sched;
@@ -49,21 +50,19 @@ fn resume_plan<U: Units, F: Files, S: Source, K: Sink>(
     requires width { plan.width ≡ (node_at plan.tree.now 0).ins }
     requires wide { 1 ≤ plan.width }
     ensures ran { (r : Resumption)
-        → IsResumedBy (network plan.entry.tree.now (U.leaf plan.entry.units.now)
-        plan.entry.net plan.entry.firings) shot r
-        → IsRunOf (resumed r (network plan.entry.tree.now (U.leaf plan.entry.units.now)
-        plan.entry.net plan.entry.firings))
-        (files_change F.held F.faults F.failed files.old files.new)
-        (change S.rest S.faults input.old input.new)
-        (change K.taken K.faults out.old out.new) request None reported result }
+        → IsResumedBy (network plan.entry.tree.now (U.leaf plan.entry.units.now) plan.entry.net
+        plan.entry.firings) shot r → IsRunOf
+        (resumed r (network plan.entry.tree.now (U.leaf plan.entry.units.now) plan.entry.net
+        plan.entry.firings)) (change (F.observed files.old) (F.observed files.new))
+        (change (S.observed input.old) (S.observed input.new))
+        (change (K.observed out.old) (K.observed out.new)) request None reported result }
     ensures kept { (r : Resumption)
-        → IsResumedBy (network plan.entry.tree.now (U.leaf plan.entry.units.now)
-        plan.entry.net plan.entry.firings) shot r
-        → KeepsRun (resumed r (network plan.entry.tree.now (U.leaf plan.entry.units.now)
-        plan.entry.net plan.entry.firings))
-        (files_change F.held F.faults F.failed files.old files.new)
-        (change S.rest S.faults input.old input.new)
-        (change K.taken K.faults out.old out.new) request None result }
+        → IsResumedBy (network plan.entry.tree.now (U.leaf plan.entry.units.now) plan.entry.net
+        plan.entry.firings) shot r → KeepsRun
+        (resumed r (network plan.entry.tree.now (U.leaf plan.entry.units.now) plan.entry.net
+        plan.entry.firings)) (change (F.observed files.old) (F.observed files.new))
+        (change (S.observed input.old) (S.observed input.new))
+        (change (K.observed out.old) (K.observed out.new)) request None result }
     ensures wants { Wants (U.may_want || F.may_want) result }
 {
     let count = plan.net.procs.len() as u32;
@@ -80,7 +79,7 @@ fn resume_plan<U: Units, F: Files, S: Source, K: Sink>(
 /// Runs the network of a snapshot from what was saved.
 fn resume_network<F: Files, S: Source, K: Sink>(
     alloc: Global,
-    snapshot: Snapshot,
+    snapshot: ResumableNetwork,
     request: Sched,
     reported: bool,
     files: &mut F,
@@ -89,19 +88,19 @@ fn resume_network<F: Files, S: Source, K: Sink>(
 ) -> Verdict
     requires ready { IsReadySnapshot snapshot }
     ensures ran { IsRunOf (continued_network snapshot.network snapshot.shot)
-        (files_change F.held F.faults F.failed files.old files.new)
-        (change S.rest S.faults input.old input.new) (change K.taken K.faults out.old out.new)
-        request None reported result }
+        (change (F.observed files.old) (F.observed files.new))
+        (change (S.observed input.old) (S.observed input.new))
+        (change (K.observed out.old) (K.observed out.new)) request None reported result }
     ensures kept { KeepsRun (continued_network snapshot.network snapshot.shot)
-        (files_change F.held F.faults F.failed files.old files.new)
-        (change S.rest S.faults input.old input.new) (change K.taken K.faults out.old out.new)
-        request None result }
+        (change (F.observed files.old) (F.observed files.new))
+        (change (S.observed input.old) (S.observed input.new))
+        (change (K.observed out.old) (K.observed out.new)) request None result }
     ensures wants { Wants F.may_want result }
 {
-    every_linked_net_is_carried();
+    every_linked_net_has_invariants();
     every_orderly_shot_goes_on();
     every_resumed_run_can_be_counted();
-    let Snapshot { network, shot } = snapshot;
+    let ResumableNetwork { network, shot } = snapshot;
     let Loaded {
         tree,
         counts,
@@ -127,16 +126,16 @@ pub fn resume<F: Files, S: Source, K: Sink>(
     input: &mut S,
     out: &mut K,
 ) -> Verdict
-    ensures expected { IsRunExpected (world
-        (files_change F.held F.faults F.failed files.old files.new)
-        (change S.rest S.faults input.old input.new) (change K.taken K.faults out.old out.new))
-        (continued name) request None reported result }
-    ensures kept { KeepsFiles (files_change F.held F.faults F.failed files.old files.new) []
+    ensures expected { IsRunExpected
+        (world (change (F.observed files.old) (F.observed files.new))
+        (change (S.observed input.old) (S.observed input.new))
+        (change (K.observed out.old) (K.observed out.new))) (continued name) request None reported
         result }
-    ensures over { (F.held files.new ≡ F.held files.old)
-        ⊎ RunsOver (world (files_change F.held F.faults F.failed files.old files.new)
-        (change S.rest S.faults input.old input.new) (change K.taken K.faults out.old out.new))
-        (continued name) request }
+    ensures kept { KeepsFiles (change (F.observed files.old) (F.observed files.new)) [] result }
+    ensures over { HasSameContent (change (F.observed files.old) (F.observed files.new))
+        ⊎ RunsOver (world (change (F.observed files.old) (F.observed files.new))
+        (change (S.observed input.old) (S.observed input.new))
+        (change (K.observed out.old) (K.observed out.new))) (continued name) request }
     ensures wants { Wants F.may_want result }
 {
     match load_snapshot(alloc, name, files) {

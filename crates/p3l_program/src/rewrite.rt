@@ -1,15 +1,15 @@
 // The command `rewrite`: a program with the same meaning and no greater service time.
 
-ghost use Rattle.std.specs.Prelude.{◌≡◌, ◌≤◌, IfOk, OnErr, ◌⊎◌};
+ghost use Rattle.std.specs.Prelude.{◌≤◌, IfOk, OnErr, ◌⊎◌};
 ghost use Rattle.p3l_base.specs.Memory.{Refused};
 ghost use Rattle.p3l_ast.specs.Tree.{program_tree};
+ghost use Rattle.p3l_io.specs.Change.{HasSameContent, change};
 ghost use Rattle.p3l_rewrite.specs.Rewriting.{MayBeRewritten};
 ghost use Rattle.p3l_rewrite.specs.Serving.{MayBeMany};
 ghost use Rattle.p3l_program.specs.Rewrite.{IsBestText, IsRewritten};
 ghost use Rattle.p3l_program.specs.Source.{plain_build};
 ghost use Rattle.p3l_program.specs.Stage.{build_stages};
 ghost use Rattle.p3l_program.specs.Text.{IsTextExpected};
-ghost use Rattle.p3l_program.specs.World.{change, files_change};
 ghost use Rattle.p3l_program.specs.Wants.{Wants};
 
 use crate::source::{Priced, load_priced};
@@ -42,11 +42,11 @@ pub fn rewrite<F: Files, K: Sink>(
     out: &mut K,
 ) -> Verdict
     requires processors { (1 ≤ processors) × (processors ≤ 512) }
-    ensures expected { IsTextExpected (files_change F.held F.faults F.failed files.old files.new)
-        (change K.taken K.faults out.old out.new)
+    ensures expected { IsTextExpected (change (F.observed files.old) (F.observed files.new))
+        (change (K.observed out.old) (K.observed out.new))
         (build_stages (plain_build program processors costs))
-        (IsRewritten (F.held files.old) (plain_build program processors costs)) result }
-    ensures stays { F.held files.new ≡ F.held files.old }
+        (IsRewritten (F.observed files.old).content (plain_build program processors costs)) result }
+    ensures same_files { HasSameContent (change (F.observed files.old) (F.observed files.new)) }
     ensures wants { Wants F.may_want result }
 {
     let build = Build {

@@ -1,11 +1,12 @@
 // The command `run`: a program of a file, run on the input under a schedule.
 
-ghost use Rattle.std.specs.Prelude.{◌≡◌, ◌≤◌, ◌⊎◌};
+ghost use Rattle.std.specs.Prelude.{◌≤◌, ◌⊎◌};
 ghost use Rattle.std.specs.Option.{option_to_list};
+ghost use Rattle.p3l_io.specs.Change.{HasSameContent, change};
 ghost use Rattle.p3l_program.specs.Origin.{built};
 ghost use Rattle.p3l_program.specs.Run.{IsRunExpected, RunsOver};
 ghost use Rattle.p3l_program.specs.Saved.{KeepsFiles};
-ghost use Rattle.p3l_program.specs.World.{change, files_change, world};
+ghost use Rattle.p3l_program.specs.World.{world};
 ghost use Rattle.p3l_program.specs.Wants.{Wants};
 
 use crate::plan::load_network;
@@ -30,17 +31,17 @@ pub fn run<F: Files, S: Source, K: Sink>(
 ) -> Verdict
     requires processors { (1 ≤ build.processors) × (build.processors ≤ 512) }
     requires capacity { (1 ≤ build.capacity) × (build.capacity ≤ 1024) }
-    ensures expected { IsRunExpected (world
-        (files_change F.held F.faults F.failed files.old files.new)
-        (change S.rest S.faults input.old input.new) (change K.taken K.faults out.old out.new))
-        (built build) request trace reported result }
-    ensures kept { KeepsFiles
-        (files_change F.held F.faults F.failed files.old files.new) (option_to_list trace)
+    ensures expected { IsRunExpected
+        (world (change (F.observed files.old) (F.observed files.new))
+        (change (S.observed input.old) (S.observed input.new))
+        (change (K.observed out.old) (K.observed out.new))) (built build) request trace reported
         result }
-    ensures over { (F.held files.new ≡ F.held files.old)
-        ⊎ RunsOver (world (files_change F.held F.faults F.failed files.old files.new)
-        (change S.rest S.faults input.old input.new) (change K.taken K.faults out.old out.new))
-        (built build) request }
+    ensures kept { KeepsFiles (change (F.observed files.old) (F.observed files.new))
+        (option_to_list trace) result }
+    ensures over { HasSameContent (change (F.observed files.old) (F.observed files.new))
+        ⊎ RunsOver (world (change (F.observed files.old) (F.observed files.new))
+        (change (S.observed input.old) (S.observed input.new))
+        (change (K.observed out.old) (K.observed out.new))) (built build) request }
     ensures wants { Wants F.may_want result }
 {
     match load_network(alloc, build, files) {

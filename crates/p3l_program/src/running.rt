@@ -1,6 +1,7 @@
 // A network that is run under the schedule that words and files request, whatever it was made from.
 
 ghost use Rattle.std.specs.Prelude.{◌≡◌, ◌<◌, ◌≤◌, ◌*◌, ◌^◌, ◌||◌};
+ghost use Rattle.p3l_io.specs.Change.{change};
 ghost use Rattle.p3l_report.specs.declared.verdict.Verdict.TheVariants as verdict;
 ghost use Rattle.p3l_run.specs.Feed.{most_of_input};
 ghost use Rattle.p3l_run.specs.Network.{IsSound, network, network_named};
@@ -8,7 +9,6 @@ ghost use Rattle.p3l_skel.specs.Tree.{node_at};
 ghost use Rattle.p3l_program.specs.LoadImage.{IsReadyImage};
 ghost use Rattle.p3l_program.specs.Plan.{network_in};
 ghost use Rattle.p3l_program.specs.Run.{IsClosed, IsRunOf, KeepsRun, keeping_for, shown};
-ghost use Rattle.p3l_program.specs.World.{change, files_change};
 ghost use Rattle.p3l_program.specs.Wants.{Wants};
 
 use crate::plan::plan_of;
@@ -17,7 +17,7 @@ use crate::schedule::load_schedule;
 use crate::verdict::fault_verdict;
 use p3l_base::Name;
 use p3l_io::{Files, Sink, Source};
-use p3l_link::laws::every_linked_net_is_carried;
+use p3l_link::laws::every_linked_net_has_invariants;
 use p3l_load::Loaded;
 use p3l_opts::Sched;
 use p3l_report::{Finish, Stats, Verdict};
@@ -56,8 +56,8 @@ pub fn close<F: Files>(
     reported: bool,
     files: &mut F,
 ) -> Verdict
-    ensures closed { IsClosed
-        (files_change F.held F.faults F.failed files.old files.new) ran trace reported result }
+    ensures closed { IsClosed (change (F.observed files.old) (F.observed files.new)) ran trace
+        reported result }
     ensures wants { Wants F.may_want result }
 {
     let Ran {
@@ -90,16 +90,15 @@ pub fn run_plan<U: Units, F: Files, S: Source, K: Sink>(
     requires width { plan.width ≡ (node_at plan.tree.now 0).ins }
     requires wide { 1 ≤ plan.width }
     requires fits { plan.firings * most_of_input < 2 ^ 63 }
-    ensures ran { IsRunOf (network_named named.now plan.entry.tree.now
-        (U.leaf plan.entry.units.now) plan.entry.net plan.entry.firings)
-        (files_change F.held F.faults F.failed files.old files.new)
-        (change S.rest S.faults input.old input.new)
-        (change K.taken K.faults out.old out.new) request trace reported result }
+    ensures ran { IsRunOf (network_named named.now plan.entry.tree.now (U.leaf plan.entry.units.now)
+        plan.entry.net plan.entry.firings) (change (F.observed files.old) (F.observed files.new))
+        (change (S.observed input.old) (S.observed input.new))
+        (change (K.observed out.old) (K.observed out.new)) request trace reported result }
     ensures kept { KeepsRun (network_named named.now plan.entry.tree.now
         (U.leaf plan.entry.units.now) plan.entry.net plan.entry.firings)
-        (files_change F.held F.faults F.failed files.old files.new)
-        (change S.rest S.faults input.old input.new)
-        (change K.taken K.faults out.old out.new) request trace result }
+        (change (F.observed files.old) (F.observed files.new))
+        (change (S.observed input.old) (S.observed input.new))
+        (change (K.observed out.old) (K.observed out.new)) request trace result }
     ensures wants { Wants (U.may_want || F.may_want) result }
 {
     let count = plan.net.procs.len() as u32;
@@ -126,17 +125,16 @@ pub fn run_network<F: Files, S: Source, K: Sink>(
     out: &mut K,
 ) -> Verdict
     requires ready { IsReadyImage loaded }
-    ensures ran { IsRunOf (network_in loaded)
-        (files_change F.held F.faults F.failed files.old files.new)
-        (change S.rest S.faults input.old input.new) (change K.taken K.faults out.old out.new)
-        request trace reported result }
+    ensures ran { IsRunOf (network_in loaded) (change (F.observed files.old) (F.observed files.new))
+        (change (S.observed input.old) (S.observed input.new))
+        (change (K.observed out.old) (K.observed out.new)) request trace reported result }
     ensures kept { KeepsRun (network_in loaded)
-        (files_change F.held F.faults F.failed files.old files.new)
-        (change S.rest S.faults input.old input.new) (change K.taken K.faults out.old out.new)
-        request trace result }
+        (change (F.observed files.old) (F.observed files.new))
+        (change (S.observed input.old) (S.observed input.new))
+        (change (K.observed out.old) (K.observed out.new)) request trace result }
     ensures wants { Wants F.may_want result }
 {
-    every_linked_net_is_carried();
+    every_linked_net_has_invariants();
     let Loaded {
         tree,
         counts,

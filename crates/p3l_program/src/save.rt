@@ -1,8 +1,8 @@
 // The writing of a file of a command.
 
 ghost use Rattle.std.specs.Prelude.{IfErr};
+ghost use Rattle.p3l_io.specs.Change.{change};
 ghost use Rattle.p3l_program.specs.Saved.{HasSave};
-ghost use Rattle.p3l_program.specs.World.{files_change};
 ghost use Rattle.p3l_program.specs.Wants.{Wants};
 
 use p3l_base::Name;
@@ -17,8 +17,8 @@ pub fn save<F: Files>(
     bytes: &[u8],
     files: &mut F,
 ) -> Result<(), Verdict>
-    ensures saved { HasSave
-        (files_change F.held F.faults F.failed files.old files.new) name.now bytes.now result }
+    ensures saved { HasSave (change (F.observed files.old) (F.observed files.new)) name.now
+        bytes.now result }
     ensures wants { IfErr result (Wants F.may_want) }
 {
     match files.write(alloc, name.as_str(), bytes) {

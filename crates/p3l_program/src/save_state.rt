@@ -1,7 +1,8 @@
 // The command `save`: a program of a file, run on the input under recorded picks, and the state that
 // they come to written as a snapshot.
 
-ghost use Rattle.std.specs.Prelude.{◌≡◌, ◌∷◌, ◌<◌, ◌≤◌, ◌*◌, ◌^◌, ◌⊎◌, [], IfOk, IfErr, ◌||◌};
+ghost use Rattle.std.specs.Prelude.{◌≡◌, ◌∷◌, ◌<◌, ◌≤◌, ◌*◌, ◌^◌, ◌⊎◌, [], IfOk, IfErr, OnOk, ◌||◌};
+ghost use Rattle.p3l_io.specs.Change.{HasSameContent, HasSameFaults, change};
 ghost use Rattle.p3l_resume.specs.Ranges.{IsFew};
 ghost use Rattle.p3l_run.specs.Feed.{most_of_input};
 ghost use Rattle.p3l_run.specs.Network.{IsSound, network};
@@ -9,7 +10,7 @@ ghost use Rattle.p3l_skel.specs.Tree.{node_at};
 ghost use Rattle.p3l_program.specs.Plan.{network_in};
 ghost use Rattle.p3l_program.specs.SaveState.{FitsSome, HasLongImage, IsReached, IsReadyToSave, IsSaveExpected, IsSaveOf, IsUnreached, IsWriting, KeepsSave, SavesOver};
 ghost use Rattle.p3l_program.specs.Saved.{KeepsFiles};
-ghost use Rattle.p3l_program.specs.World.{change, files_change, world};
+ghost use Rattle.p3l_program.specs.World.{world};
 ghost use Rattle.p3l_program.specs.Wants.{Wants};
 
 use crate::imaged::{Imaged, load_imaged};
@@ -19,7 +20,7 @@ use crate::schedule::picks_in;
 use crate::verdict::fault_verdict;
 use p3l_base::{List, Name};
 use p3l_io::{Files, Sink, Source};
-use p3l_link::laws::every_linked_net_is_carried;
+use p3l_link::laws::every_linked_net_has_invariants;
 use p3l_load::Loaded;
 use p3l_opts::Build;
 use p3l_report::{Finish, Stats, Verdict};
@@ -47,19 +48,20 @@ fn reach<U: Units, F: Files, S: Source, K: Sink>(
     requires width { plan.width ≡ (node_at plan.tree.now 0).ins }
     requires wide { 1 ≤ plan.width }
     requires fits { plan.firings * most_of_input < 2 ^ 63 }
-    ensures reached { IfOk result (IsReached (network plan.entry.tree.now
-        (U.leaf plan.entry.units.now) plan.entry.net plan.entry.firings)
-        (files_change F.held F.faults F.failed files.old files.new)
-        (change S.rest S.faults input.old input.new)
-        (change K.taken K.faults out.old out.new) name) }
-    ensures calm { IfOk result (λ saved. (F.faults files.new ≡ F.faults files.old)
-        × (K.faults out.new ≡ K.faults out.old)) }
-    ensures ended { IfErr result (IsUnreached (network plan.entry.tree.now
-        (U.leaf plan.entry.units.now) plan.entry.net plan.entry.firings)
-        (files_change F.held F.faults F.failed files.old files.new)
-        (change S.rest S.faults input.old input.new)
-        (change K.taken K.faults out.old out.new) name) }
-    ensures stays { F.held files.new ≡ F.held files.old }
+    ensures reached { IfOk result
+        (IsReached (network plan.entry.tree.now (U.leaf plan.entry.units.now) plan.entry.net
+        plan.entry.firings) (change (F.observed files.old) (F.observed files.new))
+        (change (S.observed input.old) (S.observed input.new))
+        (change (K.observed out.old) (K.observed out.new)) name) }
+    ensures unchanged { OnOk result (F.observed files.new ≡ F.observed files.old) }
+    ensures same_faults { OnOk result
+        (HasSameFaults (change (K.observed out.old) (K.observed out.new))) }
+    ensures ended { IfErr result (IsUnreached
+        (network plan.entry.tree.now (U.leaf plan.entry.units.now) plan.entry.net
+        plan.entry.firings) (change (F.observed files.old) (F.observed files.new))
+        (change (S.observed input.old) (S.observed input.new))
+        (change (K.observed out.old) (K.observed out.new)) name) }
+    ensures same_files { HasSameContent (change (F.observed files.old) (F.observed files.new)) }
     ensures wants { IfErr result (Wants (U.may_want || F.may_want)) }
 {
     laws();
@@ -85,8 +87,8 @@ fn write_snapshot<F: Files>(
 ) -> Verdict
     requires fits { FitsSome checkpoint.shot }
     requires few { IsFew image }
-    ensures written { IsWriting (files_change F.held F.faults F.failed files.old files.new)
-        checkpoint image name.now result }
+    ensures written { IsWriting (change (F.observed files.old) (F.observed files.new)) checkpoint
+        image name.now result }
     ensures wants { Wants F.may_want result }
 {
     what_fits_can_be_written();
@@ -115,17 +117,16 @@ fn save_network<F: Files, S: Source, K: Sink>(
 ) -> Verdict
     requires ready { IsReadyToSave imaged }
     ensures saved { IsSaveOf (network_in imaged.network) imaged.network.counts.list
-        imaged.network.cap imaged.image
-        (files_change F.held F.faults F.failed files.old files.new)
-        (change S.rest S.faults input.old input.new) (change K.taken K.faults out.old out.new)
-        name output result }
+        imaged.network.cap imaged.image (change (F.observed files.old) (F.observed files.new))
+        (change (S.observed input.old) (S.observed input.new))
+        (change (K.observed out.old) (K.observed out.new)) name output result }
     ensures kept { KeepsSave (network_in imaged.network)
-        (files_change F.held F.faults F.failed files.old files.new)
-        (change S.rest S.faults input.old input.new) (change K.taken K.faults out.old out.new)
-        name output result }
+        (change (F.observed files.old) (F.observed files.new))
+        (change (S.observed input.old) (S.observed input.new))
+        (change (K.observed out.old) (K.observed out.new)) name output result }
     ensures wants { Wants F.may_want result }
 {
-    every_linked_net_is_carried();
+    every_linked_net_has_invariants();
     every_table_names_modules();
     every_saved_shot_is_sound();
     let Imaged { network, image } = imaged;
@@ -159,17 +160,17 @@ pub fn save_state<F: Files, S: Source, K: Sink>(
 ) -> Verdict
     requires processors { (1 ≤ build.processors) × (build.processors ≤ 512) }
     requires capacity { (1 ≤ build.capacity) × (build.capacity ≤ 1024) }
-    ensures expected { IsSaveExpected (world
-        (files_change F.held F.faults F.failed files.old files.new)
-        (change S.rest S.faults input.old input.new) (change K.taken K.faults out.old out.new))
-        build name output result }
-    ensures kept { KeepsFiles
-        (files_change F.held F.faults F.failed files.old files.new) (output ∷ []) result }
-    ensures over { (F.held files.new ≡ F.held files.old)
-        ⊎ SavesOver (world (files_change F.held F.faults F.failed files.old files.new)
-        (change S.rest S.faults input.old input.new) (change K.taken K.faults out.old out.new))
-        build name }
-    ensures wants { Wants F.may_want result ⊎ HasLongImage (F.held files.old) build }
+    ensures expected { IsSaveExpected
+        (world (change (F.observed files.old) (F.observed files.new))
+        (change (S.observed input.old) (S.observed input.new))
+        (change (K.observed out.old) (K.observed out.new))) build name output result }
+    ensures kept { KeepsFiles (change (F.observed files.old) (F.observed files.new)) (output ∷ [])
+        result }
+    ensures over { HasSameContent (change (F.observed files.old) (F.observed files.new))
+        ⊎ SavesOver (world (change (F.observed files.old) (F.observed files.new))
+        (change (S.observed input.old) (S.observed input.new))
+        (change (K.observed out.old) (K.observed out.new))) build name }
+    ensures wants { Wants F.may_want result ⊎ HasLongImage (F.observed files.old).content build }
 {
     match load_imaged(alloc, build, files) {
         Err(verdict) => verdict,

@@ -3,6 +3,7 @@
 
 ghost use Rattle.std.specs.Prelude.{◌≡◌, ◌≤◌, ◌⊎◌, [], None, IfOk, IfErr, OnOk};
 ghost use Rattle.p3l_check.specs.Resolving.{ResolvedTree};
+ghost use Rattle.p3l_io.specs.Change.{HasSameContent, change};
 ghost use Rattle.p3l_program.specs.Load.{IsNotLoaded};
 ghost use Rattle.p3l_program.specs.Origin.{scanned};
 ghost use Rattle.p3l_program.specs.Plan.{IsCompiled, scan_network};
@@ -10,7 +11,7 @@ ghost use Rattle.p3l_program.specs.Run.{IsRunExpected, IsRunOf, KeepsRun, RunsOv
 ghost use Rattle.p3l_program.specs.Saved.{KeepsFiles};
 ghost use Rattle.p3l_program.specs.Scan.{IsReadyScan, LoadsScan};
 ghost use Rattle.p3l_program.specs.Stage.{scan_stages};
-ghost use Rattle.p3l_program.specs.World.{change, files_change, world};
+ghost use Rattle.p3l_program.specs.World.{world};
 ghost use Rattle.p3l_program.specs.Wants.{Wants};
 
 use crate::plan::{Accepted, load_program, plan_of};
@@ -18,7 +19,7 @@ use crate::running::run_plan;
 use p3l_base::Name;
 use p3l_compile::table_of;
 use p3l_io::{Files, Sink, Source};
-use p3l_link::laws::every_linked_net_is_carried;
+use p3l_link::laws::every_linked_net_has_invariants;
 use p3l_link::link;
 use p3l_opts::Sched;
 use p3l_report::{Refusal, Verdict};
@@ -41,12 +42,12 @@ fn load_scan<F: Files>(
     files: &mut F,
 ) -> Result<Planned, Verdict>
     requires { segments ≤ 512 }
-    ensures loaded { IfOk result (LoadsScan (F.held files.old) name segments) }
-    ensures calm { OnOk result (F.faults files.new ≡ F.faults files.old) }
-    ensures refused { IfErr result (IsNotLoaded
-        (files_change F.held F.faults F.failed files.old files.new)
+    ensures loaded { IfOk result (LoadsScan (F.observed files.old).content name segments) }
+    ensures unchanged { OnOk result (F.observed files.new ≡ F.observed files.old) }
+    ensures refused { IfErr result
+        (IsNotLoaded (change (F.observed files.old) (F.observed files.new))
         (scan_stages name segments)) }
-    ensures stays { F.held files.new ≡ F.held files.old }
+    ensures same_files { HasSameContent (change (F.observed files.old) (F.observed files.new)) }
     ensures wants { IfErr result (Wants F.may_want) }
 {
     let program = match load_program(alloc, name, files) {
@@ -78,17 +79,17 @@ fn run_scan<F: Files, S: Source, K: Sink>(
     requires capacity { (1 ≤ capacity) × (capacity ≤ 1024) }
     ensures ran { (r : ResolvedTree) → IsCompiled r loaded.program
         → IsRunOf (scan_network r loaded.plan capacity)
-        (files_change F.held F.faults F.failed files.old files.new)
-        (change S.rest S.faults input.old input.new) (change K.taken K.faults out.old out.new)
-        request None reported result }
+        (change (F.observed files.old) (F.observed files.new))
+        (change (S.observed input.old) (S.observed input.new))
+        (change (K.observed out.old) (K.observed out.new)) request None reported result }
     ensures kept { (r : ResolvedTree) → IsCompiled r loaded.program
         → KeepsRun (scan_network r loaded.plan capacity)
-        (files_change F.held F.faults F.failed files.old files.new)
-        (change S.rest S.faults input.old input.new) (change K.taken K.faults out.old out.new)
-        request None result }
+        (change (F.observed files.old) (F.observed files.new))
+        (change (S.observed input.old) (S.observed input.new))
+        (change (K.observed out.old) (K.observed out.new)) request None result }
     ensures wants { Wants F.may_want result }
 {
-    every_linked_net_is_carried();
+    every_linked_net_has_invariants();
     let Planned { program, plan } = loaded;
     let Accepted { tree, codes } = program;
     let Ok(net) = link(alloc, &plan.tree, &plan.counts, capacity) else {
@@ -121,16 +122,17 @@ pub fn scan<F: Files, S: Source, K: Sink>(
 ) -> Verdict
     requires segments { segments ≤ 512 }
     requires capacity { (1 ≤ capacity) × (capacity ≤ 1024) }
-    ensures expected { IsRunExpected (world
-        (files_change F.held F.faults F.failed files.old files.new)
-        (change S.rest S.faults input.old input.new) (change K.taken K.faults out.old out.new))
-        (scanned name segments capacity) request None reported result }
-    ensures kept { KeepsFiles (files_change F.held F.faults F.failed files.old files.new) []
-        result }
-    ensures over { (F.held files.new ≡ F.held files.old)
-        ⊎ RunsOver (world (files_change F.held F.faults F.failed files.old files.new)
-        (change S.rest S.faults input.old input.new) (change K.taken K.faults out.old out.new))
-        (scanned name segments capacity) request }
+    ensures expected { IsRunExpected
+        (world (change (F.observed files.old) (F.observed files.new))
+        (change (S.observed input.old) (S.observed input.new))
+        (change (K.observed out.old) (K.observed out.new))) (scanned name segments capacity) request
+        None reported result }
+    ensures kept { KeepsFiles (change (F.observed files.old) (F.observed files.new)) [] result }
+    ensures over { HasSameContent (change (F.observed files.old) (F.observed files.new))
+        ⊎ RunsOver (world (change (F.observed files.old) (F.observed files.new))
+        (change (S.observed input.old) (S.observed input.new))
+        (change (K.observed out.old) (K.observed out.new))) (scanned name segments capacity)
+        request }
     ensures wants { Wants F.may_want result }
 {
     match load_scan(alloc, name, segments, files) {

@@ -1,10 +1,10 @@
 // The schedule that words and files request.
 
 ghost use Rattle.std.specs.Prelude.{◌≡◌, ◌<◌, ◌^◌, length, IfOk, IfErr, OnOk};
+ghost use Rattle.p3l_io.specs.Change.{HasSameContent, change};
 ghost use Rattle.p3l_opts.specs.declared.command.Sched.TheVariants as sched;
 ghost use Rattle.p3l_program.specs.Run.{HasNoSchedule};
 ghost use Rattle.p3l_program.specs.Scheduled.{HasPicks, HasSchedule};
-ghost use Rattle.p3l_program.specs.World.{files_change};
 ghost use Rattle.p3l_sched.specs.Picker.{NamesProcesses, recorded};
 ghost use Rattle.p3l_sched.specs.declared.schedule.Schedule.TheVariants as schedule;
 ghost use Rattle.p3l_program.specs.Wants.{Wants};
@@ -27,15 +27,15 @@ pub fn picks_in<F: Files>(
     count: u32,
     files: &mut F,
 ) -> Result<List<u32>, Verdict>
-    ensures found { IfOk result (λ picks. HasPicks (F.held files.old) count name
+    ensures found { IfOk result (λ picks. HasPicks (F.observed files.old).content count name
         (schedule.Recorded picks)) }
     ensures named { IfOk result (λ picks. NamesProcesses count (schedule.Recorded picks)) }
     ensures few { IfOk result (λ picks. length picks < 2 ^ 63) }
-    ensures calm { OnOk result (F.faults files.new ≡ F.faults files.old) }
-    ensures refused { IfErr result (HasNoSchedule
-        (files_change F.held F.faults F.failed files.old files.new)
-        count (sched.File name)) }
-    ensures stays { F.held files.new ≡ F.held files.old }
+    ensures unchanged { OnOk result (F.observed files.new ≡ F.observed files.old) }
+    ensures refused { IfErr result
+        (HasNoSchedule (change (F.observed files.old) (F.observed files.new)) count
+        (sched.File name)) }
+    ensures same_files { HasSameContent (change (F.observed files.old) (F.observed files.new)) }
     ensures wants { IfErr result (Wants F.may_want) }
 {
     match find_text(alloc, name, PICKS_LIMIT, files) {
@@ -54,14 +54,13 @@ pub fn load_schedule<F: Files>(
     count: u32,
     files: &mut F,
 ) -> Result<Schedule, Verdict>
-    ensures request { IfOk result (HasSchedule (F.held files.old) count request) }
+    ensures request { IfOk result (HasSchedule (F.observed files.old).content count request) }
     ensures named { IfOk result (NamesProcesses count) }
     ensures few { IfOk result (λ schedule. recorded schedule < 2 ^ 63) }
-    ensures calm { OnOk result (F.faults files.new ≡ F.faults files.old) }
-    ensures refused { IfErr result (HasNoSchedule
-        (files_change F.held F.faults F.failed files.old files.new)
-        count request) }
-    ensures stays { F.held files.new ≡ F.held files.old }
+    ensures unchanged { OnOk result (F.observed files.new ≡ F.observed files.old) }
+    ensures refused { IfErr result
+        (HasNoSchedule (change (F.observed files.old) (F.observed files.new)) count request) }
+    ensures same_files { HasSameContent (change (F.observed files.old) (F.observed files.new)) }
     ensures wants { IfErr result (Wants F.may_want) }
 {
     match request {

@@ -1,12 +1,12 @@
 // Loading the snapshot that a command resumes.
 
 ghost use Rattle.std.specs.Prelude.{◌≡◌, IfOk, IfErr, OnOk};
+ghost use Rattle.p3l_io.specs.Change.{HasSameContent, change};
 ghost use Rattle.p3l_program.specs.Load.{IsNotLoaded, LoadsNetwork};
 ghost use Rattle.p3l_program.specs.LoadSnapshot.{IsReadySnapshot, LoadsSnapshot, ReadsSnapshot};
 ghost use Rattle.p3l_program.specs.Origin.{continued};
 ghost use Rattle.p3l_program.specs.Plan.{continued_network};
 ghost use Rattle.p3l_program.specs.Stage.{snapshot_stages};
-ghost use Rattle.p3l_program.specs.World.{files_change};
 ghost use Rattle.p3l_program.specs.Wants.{Wants};
 
 use crate::file::find_text;
@@ -23,21 +23,21 @@ use std::alloc::Global;
 /// The most bytes of a file of a snapshot.
 pub const SNAPSHOT_LIMIT: u64 = 268_435_456;
 
-/// A snapshot that can be resumed: its network, and what was saved of a run of it.
+/// The network of a snapshot, with the shot from which a run of it can be resumed.
 #[derive(Drop)]
-pub struct Snapshot {
+pub struct ResumableNetwork {
     pub network: Loaded,
     pub shot: Shot,
 }
 
 /// The snapshot of the file of this name, or the verdict that there is none.
 fn read_snapshot<F: Files>(alloc: Global, name: Name, files: &mut F) -> Result<Saved, Verdict>
-    ensures read { IfOk result (ReadsSnapshot (F.held files.old) name) }
-    ensures calm { OnOk result (F.faults files.new ≡ F.faults files.old) }
-    ensures refused { IfErr result (IsNotLoaded
-        (files_change F.held F.faults F.failed files.old files.new)
+    ensures read { IfOk result (ReadsSnapshot (F.observed files.old).content name) }
+    ensures unchanged { OnOk result (F.observed files.new ≡ F.observed files.old) }
+    ensures refused { IfErr result
+        (IsNotLoaded (change (F.observed files.old) (F.observed files.new))
         (snapshot_stages name)) }
-    ensures stays { F.held files.new ≡ F.held files.old }
+    ensures same_files { HasSameContent (change (F.observed files.old) (F.observed files.new)) }
     ensures wants { IfErr result (Wants F.may_want) }
 {
     match find_text(alloc, name, SNAPSHOT_LIMIT, files) {
@@ -55,15 +55,16 @@ pub fn load_snapshot<F: Files>(
     alloc: Global,
     name: Name,
     files: &mut F,
-) -> Result<Snapshot, Verdict>
-    ensures network { IfOk result (λ snapshot. LoadsNetwork (F.held files.old) (continued name)
+) -> Result<ResumableNetwork, Verdict>
+    ensures network { IfOk result
+        (λ snapshot. LoadsNetwork (F.observed files.old).content (continued name)
         (continued_network snapshot.network snapshot.shot)) }
     ensures ready { IfOk result IsReadySnapshot }
-    ensures calm { OnOk result (F.faults files.new ≡ F.faults files.old) }
-    ensures refused { IfErr result (IsNotLoaded
-        (files_change F.held F.faults F.failed files.old files.new)
+    ensures unchanged { OnOk result (F.observed files.new ≡ F.observed files.old) }
+    ensures refused { IfErr result
+        (IsNotLoaded (change (F.observed files.old) (F.observed files.new))
         (snapshot_stages name)) }
-    ensures stays { F.held files.new ≡ F.held files.old }
+    ensures same_files { HasSameContent (change (F.observed files.old) (F.observed files.new)) }
     ensures wants { IfErr result (Wants F.may_want) }
 {
     let saved = match read_snapshot(alloc, name, files) {
@@ -81,5 +82,5 @@ pub fn load_snapshot<F: Files>(
     if !sound {
         return Err(Verdict::Refused(Refusal::Evidence(Evidence::NotSound)));
     }
-    Ok(Snapshot { network, shot })
+    Ok(ResumableNetwork { network, shot })
 }

@@ -2,13 +2,13 @@
 
 ghost use Rattle.std.specs.Prelude.{◌≡◌, ◌≤◌, length, IfOk, IfErr, OnOk};
 ghost use Rattle.p3l_ast.specs.Tree.{program_tree};
+ghost use Rattle.p3l_io.specs.Change.{HasSameContent, change};
 ghost use Rattle.p3l_rewrite.specs.Serving.{HasTree};
 ghost use Rattle.p3l_program.specs.File.{text_limit};
 ghost use Rattle.p3l_program.specs.Load.{IsNotLoaded};
 ghost use Rattle.p3l_program.specs.Plan.{IsTextRefused};
 ghost use Rattle.p3l_program.specs.Source.{BreaksRules, IsSourceOf, LoadsPriced, LoadsSource};
 ghost use Rattle.p3l_program.specs.Stage.{build_stages, program_stages};
-ghost use Rattle.p3l_program.specs.World.{files_change};
 ghost use Rattle.p3l_program.specs.Wants.{Wants};
 
 use crate::file::{TEXT_LIMIT, find_text};
@@ -26,7 +26,7 @@ use std::alloc::Global;
 
 /// A program that keeps all rules, as it is written, and its tree.
 #[derive(Drop)]
-pub struct Source {
+pub struct SourceText {
     pub program: Program,
     pub tree: Tree,
 }
@@ -43,24 +43,23 @@ fn tree_of(alloc: Global, program: &Program) -> Result<Tree, SourceRefusal>
 }
 
 /// The program that a text spells, with its tree, if it keeps all rules; else the first fault.
-fn source_of(alloc: Global, text: &[u8]) -> Result<Source, SourceRefusal>
+fn source_of(alloc: Global, text: &[u8]) -> Result<SourceText, SourceRefusal>
     requires { length text.now ≤ text_limit }
     ensures kept { IfOk result (IsSourceOf text.now) }
     ensures refused { IfErr result (IsTextRefused text.now) }
 {
     let program = read(alloc, text)?;
     let tree = tree_of(alloc, &program)?;
-    Ok(Source { program, tree })
+    Ok(SourceText { program, tree })
 }
 
 /// The program of the file of this name, as it is written, or the verdict that there is none.
-fn load_source<F: Files>(alloc: Global, name: Name, files: &mut F) -> Result<Source, Verdict>
-    ensures loaded { IfOk result (LoadsSource (F.held files.old) name) }
-    ensures calm { OnOk result (F.faults files.new ≡ F.faults files.old) }
-    ensures refused { IfErr result (IsNotLoaded
-        (files_change F.held F.faults F.failed files.old files.new)
-        (program_stages name)) }
-    ensures stays { F.held files.new ≡ F.held files.old }
+fn load_source<F: Files>(alloc: Global, name: Name, files: &mut F) -> Result<SourceText, Verdict>
+    ensures loaded { IfOk result (LoadsSource (F.observed files.old).content name) }
+    ensures unchanged { OnOk result (F.observed files.new ≡ F.observed files.old) }
+    ensures refused { IfErr result
+        (IsNotLoaded (change (F.observed files.old) (F.observed files.new)) (program_stages name)) }
+    ensures same_files { HasSameContent (change (F.observed files.old) (F.observed files.new)) }
     ensures wants { IfErr result (Wants F.may_want) }
 {
     match find_text(alloc, name, TEXT_LIMIT, files) {
@@ -88,12 +87,11 @@ pub struct Priced {
 pub fn load_priced<F: Files>(alloc: Global, build: Build, files: &mut F) -> Result<Priced, Verdict>
     requires some { 1 ≤ build.processors }
     requires few { build.processors ≤ 512 }
-    ensures loaded { IfOk result (LoadsPriced (F.held files.old) build) }
-    ensures calm { OnOk result (F.faults files.new ≡ F.faults files.old) }
-    ensures refused { IfErr result (IsNotLoaded
-        (files_change F.held F.faults F.failed files.old files.new)
-        (build_stages build)) }
-    ensures stays { F.held files.new ≡ F.held files.old }
+    ensures loaded { IfOk result (LoadsPriced (F.observed files.old).content build) }
+    ensures unchanged { OnOk result (F.observed files.new ≡ F.observed files.old) }
+    ensures refused { IfErr result
+        (IsNotLoaded (change (F.observed files.old) (F.observed files.new)) (build_stages build)) }
+    ensures same_files { HasSameContent (change (F.observed files.old) (F.observed files.new)) }
     ensures wants { IfErr result (Wants F.may_want) }
 {
     let processors = build.processors;

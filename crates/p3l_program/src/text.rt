@@ -1,8 +1,8 @@
 // The writing of the one text of a command.
 
 ghost use Rattle.std.specs.Prelude.{Bool};
+ghost use Rattle.p3l_io.specs.Change.{change};
 ghost use Rattle.p3l_program.specs.Text.{IsWritten};
-ghost use Rattle.p3l_program.specs.World.{change};
 ghost use Rattle.p3l_program.specs.Wants.{Wants};
 
 use crate::verdict::fault_verdict;
@@ -12,7 +12,7 @@ use p3l_run::write::write;
 
 /// Writes the text of a command, which ends it.
 pub fn write_text<K: Sink>(text: &[u8], out: &mut K) -> Verdict
-    ensures written { IsWritten (change K.taken K.faults out.old out.new) text.now result }
+    ensures written { IsWritten (change (K.observed out.old) (K.observed out.new)) text.now result }
     ensures wants { (files : Bool) → Wants files result }
 {
     match write(out, text) {

@@ -2,6 +2,7 @@
 
 ghost use Rattle.std.specs.Prelude.{◌≡◌, ◌<◌, ◌≤◌, ◌*◌, ◌^◌, ◌⊎◌, length, Some, ◌||◌};
 ghost use Rattle.std.specs.Option.{option_to_list};
+ghost use Rattle.p3l_io.specs.Change.{HasSameContent, change};
 ghost use Rattle.p3l_run.specs.Feed.{most_of_input};
 ghost use Rattle.p3l_run.specs.Network.{IsSound, network};
 ghost use Rattle.p3l_skel.specs.Tree.{node_at};
@@ -10,7 +11,7 @@ ghost use Rattle.p3l_program.specs.LoadImage.{IsReadyImage};
 ghost use Rattle.p3l_program.specs.Plan.{network_in};
 ghost use Rattle.p3l_program.specs.Saved.{KeepsFiles};
 ghost use Rattle.p3l_program.specs.Time.{AreReported, IsTimeClosed, IsTimeExpected, IsTimeOf, KeepsTime, TimesOver};
-ghost use Rattle.p3l_program.specs.World.{change, files_change, world};
+ghost use Rattle.p3l_program.specs.World.{world};
 ghost use Rattle.p3l_program.specs.Wants.{Wants};
 
 use crate::picks::save_picks;
@@ -20,7 +21,7 @@ use crate::verdict::fault_verdict;
 use p3l_base::Name;
 use p3l_cost::Costs;
 use p3l_io::{Files, Sink, Source};
-use p3l_link::laws::every_linked_net_is_carried;
+use p3l_link::laws::every_linked_net_has_invariants;
 use p3l_load::Loaded;
 use p3l_opts::Build;
 use p3l_price_laws::linked_nets_have_small_prices;
@@ -51,8 +52,8 @@ fn time_stats(stats: &RunStats, timer: &Timer) -> Stats
 /// ended.
 fn close<F: Files>(alloc: Global, end: TimedRan, picks: Option<Name>, files: &mut F) -> Verdict
     requires some { 0 < length end.timer.prices }
-    ensures closed { IsTimeClosed (files_change F.held F.faults F.failed files.old files.new)
-        end.ran end.timer picks result }
+    ensures closed { IsTimeClosed (change (F.observed files.old) (F.observed files.new)) end.ran
+        end.timer picks result }
     ensures wants { Wants F.may_want result }
 {
     let TimedRan { ran, timer } = end;
@@ -86,18 +87,16 @@ fn time_plan<U: Units, F: Files, S: Source, K: Sink>(
     requires wide { 1 ≤ plan.width }
     requires fits { plan.firings * most_of_input < 2 ^ 63 }
     requires small { HasSmallPrices plan.tree.now costs.now plan.net }
-    ensures ran { IsTimeOf (network plan.entry.tree.now (U.leaf plan.entry.units.now)
-        plan.entry.net plan.entry.firings)
-        (prices_of plan.entry.tree.now costs.now plan.entry.net)
-        (files_change F.held F.faults F.failed files.old files.new)
-        (change S.rest S.faults input.old input.new)
-        (change K.taken K.faults out.old out.new) picks result }
+    ensures ran { IsTimeOf (network plan.entry.tree.now (U.leaf plan.entry.units.now) plan.entry.net
+        plan.entry.firings) (prices_of plan.entry.tree.now costs.now plan.entry.net)
+        (change (F.observed files.old) (F.observed files.new))
+        (change (S.observed input.old) (S.observed input.new))
+        (change (K.observed out.old) (K.observed out.new)) picks result }
     ensures kept { KeepsTime (network plan.entry.tree.now (U.leaf plan.entry.units.now)
-        plan.entry.net plan.entry.firings)
-        (prices_of plan.entry.tree.now costs.now plan.entry.net)
-        (files_change F.held F.faults F.failed files.old files.new)
-        (change S.rest S.faults input.old input.new)
-        (change K.taken K.faults out.old out.new) picks result }
+        plan.entry.net plan.entry.firings) (prices_of plan.entry.tree.now costs.now plan.entry.net)
+        (change (F.observed files.old) (F.observed files.new))
+        (change (S.observed input.old) (S.observed input.new))
+        (change (K.observed out.old) (K.observed out.new)) picks result }
     ensures wants { Wants (U.may_want || F.may_want) result }
 {
     a_timed_run_is_a_run();
@@ -122,17 +121,17 @@ fn time_linked<F: Files, S: Source, K: Sink>(
     requires small { HasSmallPrices linked.network.tree linked.costs linked.network.net }
     ensures ran { IsTimeOf (network_in linked.network)
         (prices_of linked.network.tree linked.costs linked.network.net)
-        (files_change F.held F.faults F.failed files.old files.new)
-        (change S.rest S.faults input.old input.new) (change K.taken K.faults out.old out.new)
-        picks result }
+        (change (F.observed files.old) (F.observed files.new))
+        (change (S.observed input.old) (S.observed input.new))
+        (change (K.observed out.old) (K.observed out.new)) picks result }
     ensures kept { KeepsTime (network_in linked.network)
         (prices_of linked.network.tree linked.costs linked.network.net)
-        (files_change F.held F.faults F.failed files.old files.new)
-        (change S.rest S.faults input.old input.new) (change K.taken K.faults out.old out.new)
-        picks result }
+        (change (F.observed files.old) (F.observed files.new))
+        (change (S.observed input.old) (S.observed input.new))
+        (change (K.observed out.old) (K.observed out.new)) picks result }
     ensures wants { Wants F.may_want result }
 {
-    every_linked_net_is_carried();
+    every_linked_net_has_invariants();
     let Linked { network, costs } = linked;
     let Loaded {
         tree,
@@ -160,17 +159,16 @@ pub fn time<F: Files, S: Source, K: Sink>(
 ) -> Verdict
     requires processors { (1 ≤ build.processors) × (build.processors ≤ 512) }
     requires capacity { (1 ≤ build.capacity) × (build.capacity ≤ 1024) }
-    ensures expected { IsTimeExpected (world
-        (files_change F.held F.faults F.failed files.old files.new)
-        (change S.rest S.faults input.old input.new) (change K.taken K.faults out.old out.new))
-        build picks result }
-    ensures kept { KeepsFiles
-        (files_change F.held F.faults F.failed files.old files.new) (option_to_list picks)
-        result }
-    ensures over { (F.held files.new ≡ F.held files.old)
-        ⊎ TimesOver (world (files_change F.held F.faults F.failed files.old files.new)
-        (change S.rest S.faults input.old input.new) (change K.taken K.faults out.old out.new))
-        build }
+    ensures expected { IsTimeExpected
+        (world (change (F.observed files.old) (F.observed files.new))
+        (change (S.observed input.old) (S.observed input.new))
+        (change (K.observed out.old) (K.observed out.new))) build picks result }
+    ensures kept { KeepsFiles (change (F.observed files.old) (F.observed files.new))
+        (option_to_list picks) result }
+    ensures over { HasSameContent (change (F.observed files.old) (F.observed files.new))
+        ⊎ TimesOver (world (change (F.observed files.old) (F.observed files.new))
+        (change (S.observed input.old) (S.observed input.new))
+        (change (K.observed out.old) (K.observed out.new))) build }
     ensures wants { Wants F.may_want result }
 {
     linked_nets_have_small_prices();

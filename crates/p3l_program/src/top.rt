@@ -1,10 +1,11 @@
 // The top call: from the words of the command line to the status.
 
 ghost use Rattle.std.specs.Prelude.{◌⊎◌};
+ghost use Rattle.p3l_io.specs.Change.{change};
 ghost use Rattle.p3l_opts.specs.Command.{texts_of};
 ghost use Rattle.p3l_program.specs.Answer.{Answers, IsExpected};
 ghost use Rattle.p3l_program.specs.Top.{Promises};
-ghost use Rattle.p3l_program.specs.World.{change, files_change, world};
+ghost use Rattle.p3l_program.specs.World.{world};
 ghost use Rattle.p3l_program.specs.Wants.{SavesLong, Wants};
 
 use crate::advise::advise;
@@ -41,10 +42,11 @@ fn perform<F: Files, S: Source, K: Sink>(
     out: &mut K,
 ) -> Verdict
     ensures expected { IsExpected (texts_of words.now)
-        (world (files_change F.held F.faults F.failed files.old files.new)
-        (change S.rest S.faults input.old input.new) (change K.taken K.faults out.old out.new))
-        result }
-    ensures wants { Wants F.may_want result ⊎ SavesLong (texts_of words.now) (F.held files.old) }
+        (world (change (F.observed files.old) (F.observed files.new))
+        (change (S.observed input.old) (S.observed input.new))
+        (change (K.observed out.old) (K.observed out.new))) result }
+    ensures wants { Wants F.may_want result
+        ⊎ SavesLong (texts_of words.now) (F.observed files.old).content }
 {
     match parse(alloc, words) {
         Err(OptsRefusal::Usage) => Verdict::Refused(Refusal::Usage),
@@ -142,9 +144,10 @@ fn answer<F: Files, S: Source, K: Sink, E: Sink>(
     err: &mut E,
 ) -> Status
     ensures answers { Answers F.may_want (texts_of words.now)
-        (world (files_change F.held F.faults F.failed files.old files.new)
-        (change S.rest S.faults input.old input.new) (change K.taken K.faults out.old out.new))
-        (change E.taken E.faults err.old err.new) result.0 }
+        (world (change (F.observed files.old) (F.observed files.new))
+        (change (S.observed input.old) (S.observed input.new))
+        (change (K.observed out.old) (K.observed out.new)))
+        (change (E.observed err.old) (E.observed err.new)) result.0 }
 {
     let verdict = perform(alloc, words, files, input, out);
     match report_of(alloc, &verdict) {
@@ -171,9 +174,10 @@ pub fn top<F: Files, S: Source, K: Sink, E: Sink>(
     err: &mut E,
 ) -> Status
     ensures { Promises F.may_want (texts_of words.now)
-        (world (files_change F.held F.faults F.failed files.old files.new)
-        (change S.rest S.faults input.old input.new) (change K.taken K.faults out.old out.new))
-        (change E.taken E.faults err.old err.new) result.0 }
+        (world (change (F.observed files.old) (F.observed files.new))
+        (change (S.observed input.old) (S.observed input.new))
+        (change (K.observed out.old) (K.observed out.new)))
+        (change (E.observed err.old) (E.observed err.new)) result.0 }
 {
     one_command_at_most();
     answer(alloc, words, files, input, out, err)

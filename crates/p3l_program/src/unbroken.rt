@@ -3,7 +3,7 @@
 ghost use Rattle.p3l_program.specs.Unbroken.{EveryResumedRunIsUnbroken, EverySnapshotIsResumed};
 
 use p3l_image::coding::image_begins_no_other;
-use p3l_link::laws::every_linked_net_is_carried;
+use p3l_link::laws::every_linked_net_has_invariants;
 use p3l_net::laws::a_restored_machine_goes_on_unbroken;
 use p3l_resume::coding::snapshot_begins_no_other;
 use p3l_run::laws::laws;
@@ -20,7 +20,7 @@ pub fn every_resumed_run_is_unbroken()
     ensures { EveryResumedRunIsUnbroken }
 {
     laws();
-    every_linked_net_is_carried();
+    every_linked_net_has_invariants();
     snapshot_begins_no_other();
     image_begins_no_other();
     a_restored_machine_goes_on_unbroken();

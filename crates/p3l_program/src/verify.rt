@@ -2,10 +2,10 @@
 
 ghost use Rattle.std.specs.Prelude.{◌≡◌, string_bytes};
 ghost use Rattle.p3l_base.specs.Memory.{IfGiven};
+ghost use Rattle.p3l_io.specs.Change.{HasSameContent, change};
 ghost use Rattle.p3l_program.specs.Text.{IsTextExpected};
 ghost use Rattle.p3l_program.specs.Stage.{verify_stages};
 ghost use Rattle.p3l_program.specs.Verify.{IsVerified, holds_line};
-ghost use Rattle.p3l_program.specs.World.{change, files_change};
 ghost use Rattle.p3l_program.specs.Wants.{Wants};
 
 use crate::cert::load_cert;
@@ -39,10 +39,10 @@ pub fn verify_cert<F: Files, K: Sink>(
     files: &mut F,
     out: &mut K,
 ) -> Verdict
-    ensures expected { IsTextExpected (files_change F.held F.faults F.failed files.old files.new)
-        (change K.taken K.faults out.old out.new) (verify_stages program name costs)
-        (IsVerified (F.held files.old) program costs name) result }
-    ensures stays { F.held files.new ≡ F.held files.old }
+    ensures expected { IsTextExpected (change (F.observed files.old) (F.observed files.new))
+        (change (K.observed out.old) (K.observed out.new)) (verify_stages program name costs)
+        (IsVerified (F.observed files.old).content program costs name) result }
+    ensures same_files { HasSameContent (change (F.observed files.old) (F.observed files.new)) }
     ensures wants { Wants F.may_want result }
 {
     match load_cert(alloc, program, costs, name, files) {

@@ -240,7 +240,7 @@ fn input_after(alloc: Global, count: usize) -> Result<String, Fail> {
     Ok(lines)
 }
 
-/// How many items a run was saved with, as its line says.
+/// Returns the number of items with which a run was saved, as its line says.
 fn items_in(alloc: Global, lines: &[u8], picks: usize) -> Result<Option<usize>, Fail> {
     for items in 0..40 {
         let line = format!(in alloc; "saved: items {items}, picks {picks}\n")?;

@@ -1,4 +1,4 @@
-// Where a run or a trace would end in several ways, the first of them is reported.
+// The first ending is reported if a run or a trace would end in several ways.
 
 use crate::world::play;
 use std::test::Fail;

@@ -1,5 +1,5 @@
-// Where several stages of a command would refuse, the first of them does: each case breaks a stage that
-// comes before the one that the next case breaks.
+// The first stage of a command that refuses decides: each case breaks a stage that comes before the
+// one that the next case breaks.
 
 use crate::world::play;
 use std::test::Fail;

@@ -1,4 +1,4 @@
-// What a run takes from its input, and lines that can't be put.
+// Reading of input by runs, and lines that can't be put.
 
 use crate::world::{Ended, compare, files_of, perform, play};
 use std::alloc::Global;

@@ -29,7 +29,8 @@ use std::alloc::Global;
 use std::process::Abort;
 use std::test::Fail;
 
-/// How a command ended: its status, how many calls took from its input, its output and its lines.
+/// Ends of commands: the status, the number of calls that took from the input, the output and the
+/// lines.
 #[derive(Drop)]
 pub struct Ended {
     pub status: u8,
@@ -312,7 +313,7 @@ pub fn take_block(rt: &impl Abort, alloc: Global, block: &str) -> Result<(), Fai
     see_left(rt, alloc, block, &files)
 }
 
-/// How the lines of a transcript begin.
+/// Beginnings of the lines of a transcript.
 const MARKS: &[&str] = &[
     "= ", "#", "|", "file ", "fails ", "none ", "leaves ", "$ ", "<", ">", "!", "? ",
 ];

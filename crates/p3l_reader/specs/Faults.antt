@@ -13,7 +13,7 @@ use Rattle.p3l_ast.specs.declared.program.Program.{Program}
 use Rattle.p3l_ast.specs.Tree.{EntryTree, entry_tree, ProgramTree, program_tree}
 use Rattle.p3l_lexer.specs.declared.token.Lexeme.{Lexeme}
 use Rattle.p3l_lexer.specs.declared.token.Lexeme.TheVariants.{Faulty}
-use Rattle.p3l_lexer.specs.declared.token.Token.{Token}
+use Rattle.p3l_lexer.specs.declared.token.TextToken.{TextToken}
 use Rattle.p3l_grammar.specs.Symbol.{symbols}
 use Rattle.p3l_grammar.specs.Limits.{at_rest, IsWithin}
 use Rattle.p3l_grammar.specs.Grammar.{Derives, IsViable, IsFaultOf, IsFirstFault}
@@ -25,35 +25,35 @@ own_fault (Faulty f) = f
 own_fault _ = Expected
 
 -- the refusal in front of the tokens that are left
-abbrev pub wrong_at : List Token → Pos → SourceRefusal
+abbrev pub wrong_at : List TextToken → Pos → SourceRefusal
 wrong_at [] end = At Expected end
 wrong_at (t ∷ ts) end = At (own_fault t.lexeme) t.at
 
 -- the refusal of a token that passes a limit
-abbrev pub too_nested : Token → SourceRefusal
+abbrev pub too_nested : TextToken → SourceRefusal
 too_nested t = At TooNested t.at
 
 -- the fault in front of the tokens that are left, if the text ends at this position
-abbrev pub IsWrongBefore : List Token → List Token → Pos → Fault → Pos → Type 0
+abbrev pub IsWrongBefore : List TextToken → List TextToken → Pos → Fault → Pos → Type 0
 IsWrongBefore before [] end fault at =
     (fault ≡ Expected) × (at ≡ end) × ((entries : List EntryTree) → Derives (symbols before) entries → ⊥)
 IsWrongBefore before (t ∷ after) end fault at = (at ≡ t.at) × IsFaultOf t.lexeme fault (symbols (before ++ t ∷ []))
 
 -- the first fault of the tokens
-pub record IsFirstIn (tokens : List Token) (end : Pos) (fault : Fault) (at : Pos) : Type 0 where
-  pub before : List Token
-  pub after : List Token
+pub record IsFirstIn (tokens : List TextToken) (end : Pos) (fault : Fault) (at : Pos) : Type 0 where
+  pub before : List TextToken
+  pub after : List TextToken
   pub whole : tokens ≡ before ++ after
   pub viable : IsViable (symbols before)
   pub within : IsWithin at_rest (symbols before)
   pub wrong : IsWrongBefore before after end fault at
 
-abbrev pub IsFaultIn : List Token → Pos → SourceRefusal → Type 0
+abbrev pub IsFaultIn : List TextToken → Pos → SourceRefusal → Type 0
 IsFaultIn tokens end NoMemory = Refused
 IsFaultIn tokens end (At fault at) = IsFirstIn tokens end fault at
 
 -- the same, where the fault is at the last token or before it
-abbrev pub IsLastFault : List Token → Pos → SourceRefusal → Type 0
+abbrev pub IsLastFault : List TextToken → Pos → SourceRefusal → Type 0
 IsLastFault tokens end NoMemory = Refused
 IsLastFault tokens end (At fault at) = (f : IsFirstIn tokens end fault at) × (0 < length f.after)
 

@@ -10,11 +10,11 @@ use crate::port::port_name;
 use crate::refusal::Refusal;
 use p3l_ast::{Arg, BinOp, Call, OutArg, Spot, Sub};
 use p3l_base::List;
-use p3l_lexer::{Mark, Token};
+use p3l_lexer::{Mark, TextToken};
 use std::alloc::Global;
 
 /// Reads on after an opening bracket.
-fn sub(alloc: Global, tokens: &[Token]) -> Result<(Sub, &[Token]), Refusal>
+fn sub(alloc: Global, tokens: &[TextToken]) -> Result<(Sub, &[TextToken]), Refusal>
     ensures ok { IfOk result (λ x. Reads any_sub tokens.now x.0 x.1.now) }
     ensures shorter { IfOk result (λ x. length x.1.now < length tokens.now) }
     ensures err { IfErr result (λ e. Fails any_sub tokens.now e) }
@@ -33,7 +33,7 @@ fn sub(alloc: Global, tokens: &[Token]) -> Result<(Sub, &[Token]), Refusal>
 }
 
 /// Reads on after the name of an argument.
-fn arg_of(alloc: Global, at: Spot, tokens: &[Token]) -> Result<(Arg, &[Token]), Refusal>
+fn arg_of(alloc: Global, at: Spot, tokens: &[TextToken]) -> Result<(Arg, &[TextToken]), Refusal>
     ensures ok { IfOk result (λ x. Reads (arg_from at) tokens.now x.0 x.1.now) }
     ensures shorter { IfOk result (λ x. length x.1.now ≤ length tokens.now) }
     ensures err { IfErr result (λ e. Fails (arg_from at) tokens.now e) }
@@ -43,7 +43,7 @@ fn arg_of(alloc: Global, at: Spot, tokens: &[Token]) -> Result<(Arg, &[Token]), 
 }
 
 /// An argument.
-fn arg(alloc: Global, tokens: &[Token]) -> Result<(Arg, &[Token]), Refusal>
+fn arg(alloc: Global, tokens: &[TextToken]) -> Result<(Arg, &[TextToken]), Refusal>
     ensures ok { IfOk result (λ x. Reads arg tokens.now x.0 x.1.now) }
     ensures shorter { IfOk result (λ x. length x.1.now < length tokens.now) }
     ensures err { IfErr result (λ e. Fails arg tokens.now e) }
@@ -53,7 +53,7 @@ fn arg(alloc: Global, tokens: &[Token]) -> Result<(Arg, &[Token]), Refusal>
 }
 
 /// An out argument: a port that it declares, or one that is there.
-fn out(alloc: Global, tokens: &[Token]) -> Result<(OutArg, &[Token]), Refusal>
+fn out(alloc: Global, tokens: &[TextToken]) -> Result<(OutArg, &[TextToken]), Refusal>
     ensures ok { IfOk result (λ x. Reads any_out tokens.now x.0 x.1.now) }
     ensures shorter { IfOk result (λ x. length x.1.now < length tokens.now) }
     ensures err { IfErr result (λ e. Fails any_out tokens.now e) }
@@ -72,7 +72,7 @@ fn out(alloc: Global, tokens: &[Token]) -> Result<(OutArg, &[Token]), Refusal>
 }
 
 /// Arguments in parentheses, one at least.
-fn args(alloc: Global, tokens: &[Token]) -> Result<(List<Arg>, &[Token]), Refusal>
+fn args(alloc: Global, tokens: &[TextToken]) -> Result<(List<Arg>, &[TextToken]), Refusal>
     ensures ok { IfOk result (λ x. Reads args tokens.now x.0 x.1.now) }
     ensures shorter { IfOk result (λ x. length x.1.now < length tokens.now) }
     ensures err { IfErr result (λ e. Fails args tokens.now e) }
@@ -81,7 +81,7 @@ fn args(alloc: Global, tokens: &[Token]) -> Result<(List<Arg>, &[Token]), Refusa
 }
 
 /// Out arguments in parentheses, one at least.
-fn outs(alloc: Global, tokens: &[Token]) -> Result<(List<OutArg>, &[Token]), Refusal>
+fn outs(alloc: Global, tokens: &[TextToken]) -> Result<(List<OutArg>, &[TextToken]), Refusal>
     ensures ok { IfOk result (λ x. Reads out_args tokens.now x.0 x.1.now) }
     ensures shorter { IfOk result (λ x. length x.1.now < length tokens.now) }
     ensures err { IfErr result (λ e. Fails out_args tokens.now e) }
@@ -90,7 +90,7 @@ fn outs(alloc: Global, tokens: &[Token]) -> Result<(List<OutArg>, &[Token]), Ref
 }
 
 /// Reads on after the name of a call.
-fn call_of(alloc: Global, at: Spot, tokens: &[Token]) -> Result<(Call, &[Token]), Refusal>
+fn call_of(alloc: Global, at: Spot, tokens: &[TextToken]) -> Result<(Call, &[TextToken]), Refusal>
     ensures ok { IfOk result (λ x. Reads (call_from at) tokens.now x.0 x.1.now) }
     ensures shorter { IfOk result (λ x. length x.1.now < length tokens.now) }
     ensures err { IfErr result (λ e. Fails (call_from at) tokens.now e) }
@@ -103,7 +103,7 @@ fn call_of(alloc: Global, at: Spot, tokens: &[Token]) -> Result<(Call, &[Token])
 }
 
 /// A call.
-pub fn call(alloc: Global, tokens: &[Token]) -> Result<(Call, &[Token]), Refusal>
+pub fn call(alloc: Global, tokens: &[TextToken]) -> Result<(Call, &[TextToken]), Refusal>
     ensures ok { IfOk result (λ x. Reads call tokens.now x.0 x.1.now) }
     ensures shorter { IfOk result (λ x. length x.1.now < length tokens.now) }
     ensures err { IfErr result (λ e. Fails call tokens.now e) }
@@ -113,7 +113,7 @@ pub fn call(alloc: Global, tokens: &[Token]) -> Result<(Call, &[Token]), Refusal
 }
 
 /// Calls, one at least.
-pub fn call_list(alloc: Global, tokens: &[Token]) -> Result<(List<Call>, &[Token]), Refusal>
+pub fn call_list(alloc: Global, tokens: &[TextToken]) -> Result<(List<Call>, &[TextToken]), Refusal>
     ensures ok { IfOk result (λ x. Reads call_list tokens.now x.0 x.1.now) }
     ensures shorter { IfOk result (λ x. length x.1.now < length tokens.now) }
     ensures err { IfErr result (λ e. Fails call_list tokens.now e) }
@@ -127,7 +127,7 @@ impl Listed for Sub {
 
     ghost list = { another_sub };
 
-    fn next(alloc: Global, tokens: &[Token]) -> Result<Option<(Sub, &[Token])>, Refusal> {
+    fn next(alloc: Global, tokens: &[TextToken]) -> Result<Option<(Sub, &[TextToken])>, Refusal> {
         match skip(tokens, Mark::OpenBracket) {
             Some(rest) => Ok(Some(sub(alloc, rest)?)),
             None => Ok(None),
@@ -140,7 +140,7 @@ impl Listed for Arg {
 
     ghost list = { another_arg };
 
-    fn next(alloc: Global, tokens: &[Token]) -> Result<Option<(Arg, &[Token])>, Refusal> {
+    fn next(alloc: Global, tokens: &[TextToken]) -> Result<Option<(Arg, &[TextToken])>, Refusal> {
         match skip(tokens, Mark::Comma) {
             Some(rest) => Ok(Some(arg(alloc, rest)?)),
             None => Ok(None),
@@ -153,7 +153,7 @@ impl Separated for Arg {
 
     ghost one = { arg };
 
-    fn one(alloc: Global, tokens: &[Token]) -> Result<(Arg, &[Token]), Refusal> {
+    fn one(alloc: Global, tokens: &[TextToken]) -> Result<(Arg, &[TextToken]), Refusal> {
         arg(alloc, tokens)
     }
 }
@@ -163,7 +163,10 @@ impl Listed for OutArg {
 
     ghost list = { another_out };
 
-    fn next(alloc: Global, tokens: &[Token]) -> Result<Option<(OutArg, &[Token])>, Refusal> {
+    fn next(
+        alloc: Global,
+        tokens: &[TextToken],
+    ) -> Result<Option<(OutArg, &[TextToken])>, Refusal> {
         match skip(tokens, Mark::Comma) {
             Some(rest) => Ok(Some(out(alloc, rest)?)),
             None => Ok(None),
@@ -176,7 +179,7 @@ impl Separated for OutArg {
 
     ghost one = { any_out };
 
-    fn one(alloc: Global, tokens: &[Token]) -> Result<(OutArg, &[Token]), Refusal> {
+    fn one(alloc: Global, tokens: &[TextToken]) -> Result<(OutArg, &[TextToken]), Refusal> {
         out(alloc, tokens)
     }
 }
@@ -186,7 +189,7 @@ impl Listed for Call {
 
     ghost list = { another_call };
 
-    fn next(alloc: Global, tokens: &[Token]) -> Result<Option<(Call, &[Token])>, Refusal> {
+    fn next(alloc: Global, tokens: &[TextToken]) -> Result<Option<(Call, &[TextToken])>, Refusal> {
         match name_next(alloc, tokens)? {
             Some((at, rest)) => Ok(Some(call_of(alloc, at, rest)?)),
             None => Ok(None),

@@ -11,11 +11,11 @@ ghost use Rattle.p3l_reader.specs.Reading.{Begins, NoUnary, Stops, Reads, Fails,
 use crate::mark::{digits_next, name_next, sign_next, skip};
 use crate::refusal::Refusal;
 use p3l_ast::{BinOp, Expr, Spot, Target, UnOp};
-use p3l_lexer::{Mark, Token};
+use p3l_lexer::{Mark, TextToken};
 use std::alloc::Global;
 
 /// The operator before an operand that comes next, where one comes next.
-fn unary_next(tokens: &[Token]) -> Option<(UnOp, &[Token])>
+fn unary_next(tokens: &[TextToken]) -> Option<(UnOp, &[TextToken])>
     ensures some { IfSome result (λ x. Begins tokens.now (sign (unary_mark x.0)) x.1.now) }
     ensures shorter { IfSome result (λ x. length x.1.now < length tokens.now) }
     ensures none { IfNone result (NoUnary tokens.now) }
@@ -40,7 +40,7 @@ fn infix_of(mark: Mark) -> Option<BinOp>
 }
 
 /// The operator that comes next, if it binds as tight as this, and what follows it.
-fn operator(tokens: &[Token], least: u8) -> Option<(BinOp, &[Token])>
+fn operator(tokens: &[TextToken], least: u8) -> Option<(BinOp, &[TextToken])>
     ensures tight { IfSome result (λ x. least ≤ level x.0) }
     ensures some { IfSome result (λ x. Begins tokens.now (sign (Operator x.0)) x.1.now) }
     ensures none { IfNone result (Stops least tokens.now) }
@@ -56,7 +56,7 @@ fn operator(tokens: &[Token], least: u8) -> Option<(BinOp, &[Token])>
 
 /// A number, a place, an expression in parentheses, or an operator before one of these.
 #[cycle(expression)]
-fn operand(alloc: Global, tokens: &[Token]) -> Result<(Expr, &[Token]), Refusal>
+fn operand(alloc: Global, tokens: &[TextToken]) -> Result<(Expr, &[TextToken]), Refusal>
     ensures ok { IfOk result (λ x. Follows 10 tokens.now (phrase x.0) x.1.now) }
     ensures err { IfErr result (λ e. FailsAt 10 tokens.now e) }
 {
@@ -77,7 +77,7 @@ fn operand(alloc: Global, tokens: &[Token]) -> Result<(Expr, &[Token]), Refusal>
 
 /// Reads on after an operator before its operand.
 #[cycle(expression)]
-fn unary(alloc: Global, op: UnOp, tokens: &[Token]) -> Result<(Expr, &[Token]), Refusal>
+fn unary(alloc: Global, op: UnOp, tokens: &[TextToken]) -> Result<(Expr, &[TextToken]), Refusal>
     ensures ok { IfOk result (λ x. FollowsUnary op tokens.now (phrase x.0) x.1.now) }
     ensures err { IfErr result (λ e. FailsUnary op tokens.now e) }
 {
@@ -87,7 +87,7 @@ fn unary(alloc: Global, op: UnOp, tokens: &[Token]) -> Result<(Expr, &[Token]), 
 
 /// Reads on after the name of a place that is read.
 #[cycle(expression)]
-fn place(alloc: Global, at: Spot, tokens: &[Token]) -> Result<(Expr, &[Token]), Refusal>
+fn place(alloc: Global, at: Spot, tokens: &[TextToken]) -> Result<(Expr, &[TextToken]), Refusal>
     ensures ok { IfOk result (λ x. Reads (place_from at) tokens.now (phrase x.0) x.1.now) }
     ensures shorter { IfOk result (λ x. length x.1.now ≤ length tokens.now) }
     ensures err { IfErr result (λ e. Fails (place_from at) tokens.now e) }
@@ -98,7 +98,7 @@ fn place(alloc: Global, at: Spot, tokens: &[Token]) -> Result<(Expr, &[Token]), 
 
 /// The next index in brackets, where one comes next.
 #[cycle(expression)]
-fn next_index(alloc: Global, tokens: &[Token]) -> Result<Option<(Expr, &[Token])>, Refusal>
+fn next_index(alloc: Global, tokens: &[TextToken]) -> Result<Option<(Expr, &[TextToken])>, Refusal>
     ensures some { IfOk result (λ o. IfSome o (λ x. AddsIndex tokens.now (phrase x.0) x.1.now)) }
     ensures shorter { IfOk result (λ o. IfSome o (λ x. length x.1.now < length tokens.now)) }
     ensures none { IfOk result (λ o. IfNone o (LeavesIndex tokens.now)) }
@@ -112,7 +112,7 @@ fn next_index(alloc: Global, tokens: &[Token]) -> Result<Option<(Expr, &[Token])
 
 /// The indices in brackets, as many as there are.
 #[cycle(expression)]
-pub fn index(alloc: Global, tokens: &[Token]) -> Result<(Vec<Expr>, &[Token]), Refusal>
+pub fn index(alloc: Global, tokens: &[TextToken]) -> Result<(Vec<Expr>, &[TextToken]), Refusal>
     ensures ok { IfOk result (λ x. Reads (another_index none) tokens.now (phrases x.0.items)
         x.1.now) }
     ensures shorter { IfOk result (λ x. length x.1.now ≤ length tokens.now) }
@@ -129,7 +129,11 @@ pub fn index(alloc: Global, tokens: &[Token]) -> Result<(Vec<Expr>, &[Token]), R
 
 /// An expression up to a mark, and what follows the mark.
 #[cycle(expression)]
-pub fn upto(alloc: Global, tokens: &[Token], mark: Mark) -> Result<(Expr, &[Token]), Refusal>
+pub fn upto(
+    alloc: Global,
+    tokens: &[TextToken],
+    mark: Mark,
+) -> Result<(Expr, &[TextToken]), Refusal>
     ensures ok { IfOk result (λ x. Reads (upto mark) tokens.now (phrase x.0) x.1.now) }
     ensures shorter { IfOk result (λ x. length x.1.now < length tokens.now) }
     ensures err { IfErr result (λ e. Fails (upto mark) tokens.now e) }
@@ -143,7 +147,7 @@ pub fn upto(alloc: Global, tokens: &[Token], mark: Mark) -> Result<(Expr, &[Toke
 
 /// An expression whose operators bind as tight as this.
 #[cycle(expression)]
-fn expr(alloc: Global, tokens: &[Token], least: u8) -> Result<(Expr, &[Token]), Refusal>
+fn expr(alloc: Global, tokens: &[TextToken], least: u8) -> Result<(Expr, &[TextToken]), Refusal>
     requires { least ≤ 10 }
     ensures ok { IfOk result (λ x. Follows least tokens.now (phrase x.0) x.1.now) }
     ensures stops { IfOk result (λ x. Stops least x.1.now) }

@@ -7,10 +7,10 @@ ghost use Rattle.p3l_reader.specs.Reading.{Reads, Fails, separated_list, parenth
 use crate::mark::expect;
 use crate::refusal::Refusal;
 use p3l_base::{List, NoMemory};
-use p3l_lexer::{Mark, Token};
+use p3l_lexer::{Mark, TextToken};
 use std::alloc::Global;
 
-/// A thing of which a list has any number.
+/// A kind of element of a list of any length.
 pub trait Listed: Drop + Sized {
     ghost use Rattle.std.specs.Prelude.{List, ◌<◌, length, IfOk, IfErr, IfSome, IfNone};
     ghost use Rattle.p3l_grammar.specs.Parser.{Parser};
@@ -19,7 +19,7 @@ pub trait Listed: Drop + Sized {
     ghost list: { List Self → (List Self → Parser) → Parser };
 
     /// The next one, where one comes next.
-    fn next(alloc: Global, tokens: &[Token]) -> Result<Option<(Self, &[Token])>, Refusal>
+    fn next(alloc: Global, tokens: &[TextToken]) -> Result<Option<(Self, &[TextToken])>, Refusal>
         ensures some { IfOk result (λ o. IfSome o (λ x. Adds list tokens.now x.0 x.1.now)) }
         ensures shorter { IfOk result (λ o. IfSome o (λ x. length x.1.now < length tokens.now)) }
         ensures none { IfOk result (λ o. IfNone o (Leaves list tokens.now)) }
@@ -30,8 +30,8 @@ pub trait Listed: Drop + Sized {
 pub fn list_from<T: Listed>(
     alloc: Global,
     first: List<T>,
-    tokens: &[Token],
-) -> Result<(List<T>, &[Token]), Refusal>
+    tokens: &[TextToken],
+) -> Result<(List<T>, &[TextToken]), Refusal>
     ensures ok { IfOk result (λ x. Reads (T.list first) tokens.now x.0 x.1.now) }
     ensures shorter { IfOk result (λ x. length x.1.now ≤ length tokens.now) }
     ensures err { IfErr result (λ e. Fails (T.list first) tokens.now e) }
@@ -54,7 +54,7 @@ pub trait Separated: Listed {
     ghost one: { (Self → Parser) → Parser };
 
     /// One of them.
-    fn one(alloc: Global, tokens: &[Token]) -> Result<(Self, &[Token]), Refusal>
+    fn one(alloc: Global, tokens: &[TextToken]) -> Result<(Self, &[TextToken]), Refusal>
         ensures ok { IfOk result (λ x. Reads one tokens.now x.0 x.1.now) }
         ensures shorter { IfOk result (λ x. length x.1.now < length tokens.now) }
         ensures err { IfErr result (λ e. Fails one tokens.now e) };
@@ -72,8 +72,8 @@ pub fn list_of_one<T: Drop>(alloc: Global, item: T) -> Result<List<T>, NoMemory>
 /// Things with commas between them, one at least.
 fn separated_list<T: Separated>(
     alloc: Global,
-    tokens: &[Token],
-) -> Result<(List<T>, &[Token]), Refusal>
+    tokens: &[TextToken],
+) -> Result<(List<T>, &[TextToken]), Refusal>
     ensures ok { IfOk result (λ x. Reads (separated_list T.one T.list) tokens.now x.0 x.1.now) }
     ensures shorter { IfOk result (λ x. length x.1.now < length tokens.now) }
     ensures err { IfErr result (λ e. Fails (separated_list T.one T.list) tokens.now e) }
@@ -86,8 +86,8 @@ fn separated_list<T: Separated>(
 /// The same in parentheses.
 pub fn parenthesized<T: Separated>(
     alloc: Global,
-    tokens: &[Token],
-) -> Result<(List<T>, &[Token]), Refusal>
+    tokens: &[TextToken],
+) -> Result<(List<T>, &[TextToken]), Refusal>
     ensures ok { IfOk result (λ x. Reads (parenthesized T.one T.list) tokens.now x.0 x.1.now) }
     ensures shorter { IfOk result (λ x. length x.1.now < length tokens.now) }
     ensures err { IfErr result (λ e. Fails (parenthesized T.one T.list) tokens.now e) }

@@ -9,11 +9,11 @@ ghost use Rattle.p3l_reader.specs.Reading.{Begins, BeginsDigits, NotNext, IsWord
 use crate::refusal::Refusal;
 use p3l_ast::{Num, Pos, Spot};
 use p3l_base::{Name, NoMemory};
-use p3l_lexer::{Lexeme, Mark, Token};
+use p3l_lexer::{Lexeme, Mark, TextToken};
 use std::alloc::Global;
 
 /// True if a token is this mark.
-fn is_mark(token: &Token, mark: Mark) -> bool
+fn is_mark(token: &TextToken, mark: Mark) -> bool
     ensures { IsTrue result ↔ (symbol token.now ≡ sign mark) }
 {
     match token.lexeme {
@@ -23,7 +23,7 @@ fn is_mark(token: &Token, mark: Mark) -> bool
 }
 
 /// The tokens after a mark, if the mark comes next.
-pub fn skip(tokens: &[Token], mark: Mark) -> Option<&[Token]>
+pub fn skip(tokens: &[TextToken], mark: Mark) -> Option<&[TextToken]>
     ensures some { IfSome result (λ rest. Begins tokens.now (sign mark) rest.now) }
     ensures shorter { IfSome result (λ rest. length rest.now < length tokens.now) }
     ensures none { IfNone result (NotNext mark tokens.now) }
@@ -40,7 +40,7 @@ pub fn skip(tokens: &[Token], mark: Mark) -> Option<&[Token]>
 }
 
 /// The tokens after a mark.
-pub fn expect(tokens: &[Token], mark: Mark) -> Result<&[Token], Refusal>
+pub fn expect(tokens: &[TextToken], mark: Mark) -> Result<&[TextToken], Refusal>
     ensures ok { IfOk result (λ rest. Begins tokens.now (sign mark) rest.now) }
     ensures shorter { IfOk result (λ rest. length rest.now < length tokens.now) }
     ensures err { IfErr result (λ e. NotThere mark tokens.now e) }
@@ -60,14 +60,14 @@ pub fn spot_of(alloc: Global, name: &Name, pos: Pos) -> Result<Spot, NoMemory>
 }
 
 /// The name that comes next.
-pub fn spot(alloc: Global, tokens: &[Token]) -> Result<(Spot, &[Token]), Refusal>
+pub fn spot(alloc: Global, tokens: &[TextToken]) -> Result<(Spot, &[TextToken]), Refusal>
     ensures ok { IfOk result (λ x. Reads any_word tokens.now x.0 x.1.now) }
     ensures shorter { IfOk result (λ x. length x.1.now < length tokens.now) }
     ensures err { IfErr result (λ e. Fails any_word tokens.now e) }
 {
     match tokens {
         [
-            Token {
+            TextToken {
                 lexeme: Lexeme::Word(name),
                 at,
             },
@@ -78,13 +78,13 @@ pub fn spot(alloc: Global, tokens: &[Token]) -> Result<(Spot, &[Token]), Refusal
 }
 
 /// True if a name comes next.
-pub fn word_comes(tokens: &[Token]) -> bool
+pub fn word_comes(tokens: &[TextToken]) -> bool
     ensures yes { result ≡ true → IsWord tokens.now }
     ensures no { result ≡ false → NoWord tokens.now }
 {
     match tokens {
         [
-            Token {
+            TextToken {
                 lexeme: Lexeme::Word(_),
                 ..
             },
@@ -95,14 +95,17 @@ pub fn word_comes(tokens: &[Token]) -> bool
 }
 
 /// The name that comes next, where one comes next.
-pub fn name_next(alloc: Global, tokens: &[Token]) -> Result<Option<(Spot, &[Token])>, NoMemory>
+pub fn name_next(
+    alloc: Global,
+    tokens: &[TextToken],
+) -> Result<Option<(Spot, &[TextToken])>, NoMemory>
     ensures some { IfGiven result (λ o. IfSome o (λ x. Begins tokens.now (word x.0) x.1.now)) }
     ensures shorter { IfOk result (λ o. IfSome o (λ x. length x.1.now < length tokens.now)) }
     ensures none { IfOk result (λ o. IfNone o (NoWord tokens.now)) }
 {
     match tokens {
         [
-            Token {
+            TextToken {
                 lexeme: Lexeme::Word(name),
                 at,
             },
@@ -113,14 +116,14 @@ pub fn name_next(alloc: Global, tokens: &[Token]) -> Result<Option<(Spot, &[Toke
 }
 
 /// The mark that comes next, where one comes next.
-pub fn sign_next(tokens: &[Token]) -> Option<(Mark, &[Token])>
+pub fn sign_next(tokens: &[TextToken]) -> Option<(Mark, &[TextToken])>
     ensures some { IfSome result (λ x. Begins tokens.now (sign x.0) x.1.now) }
     ensures shorter { IfSome result (λ x. length x.1.now < length tokens.now) }
     ensures none { IfNone result (NoSign tokens.now) }
 {
     match tokens {
         [
-            Token {
+            TextToken {
                 lexeme: Lexeme::Sign(mark),
                 ..
             },
@@ -131,14 +134,14 @@ pub fn sign_next(tokens: &[Token]) -> Option<(Mark, &[Token])>
 }
 
 /// The number in digits that comes next, where one comes next.
-pub fn digits_next(tokens: &[Token]) -> Option<(i64, &[Token])>
+pub fn digits_next(tokens: &[TextToken]) -> Option<(i64, &[TextToken])>
     ensures some { IfSome result (λ x. BeginsDigits tokens.now x.0 x.1.now) }
     ensures shorter { IfSome result (λ x. length x.1.now < length tokens.now) }
     ensures none { IfNone result (NoDigits tokens.now) }
 {
     match tokens {
         [
-            Token {
+            TextToken {
                 lexeme: Lexeme::Digits(value),
                 ..
             },
@@ -149,14 +152,14 @@ pub fn digits_next(tokens: &[Token]) -> Option<(i64, &[Token])>
 }
 
 /// The number that comes next.
-pub fn digits(tokens: &[Token]) -> Result<(i64, &[Token]), Refusal>
+pub fn digits(tokens: &[TextToken]) -> Result<(i64, &[TextToken]), Refusal>
     ensures ok { IfOk result (λ x. Reads any_digits tokens.now x.0 x.1.now) }
     ensures shorter { IfOk result (λ x. length x.1.now < length tokens.now) }
     ensures err { IfErr result (λ e. Fails any_digits tokens.now e) }
 {
     match tokens {
         [
-            Token {
+            TextToken {
                 lexeme: Lexeme::Digits(value),
                 ..
             },
@@ -167,21 +170,21 @@ pub fn digits(tokens: &[Token]) -> Result<(i64, &[Token]), Refusal>
 }
 
 /// The number or the name of a constant that comes next.
-pub fn num(alloc: Global, tokens: &[Token]) -> Result<(Num, &[Token]), Refusal>
+pub fn num(alloc: Global, tokens: &[TextToken]) -> Result<(Num, &[TextToken]), Refusal>
     ensures ok { IfOk result (λ x. Reads any_num tokens.now x.0 x.1.now) }
     ensures shorter { IfOk result (λ x. length x.1.now < length tokens.now) }
     ensures err { IfErr result (λ e. Fails any_num tokens.now e) }
 {
     match tokens {
         [
-            Token {
+            TextToken {
                 lexeme: Lexeme::Digits(value),
                 at,
             },
             rest @ ..,
         ] => Ok((Num::Digits(*value, *at), rest)),
         [
-            Token {
+            TextToken {
                 lexeme: Lexeme::Word(name),
                 at,
             },

@@ -14,7 +14,7 @@ use crate::stmt::stmts;
 use p3l_ast::{BinOp, Block, Clauses, Entry, Inside, Kind, Module, Num, Port, Rescue, Spot};
 use p3l_base::List;
 use p3l_grammar::mark::mark_of_kind;
-use p3l_lexer::{Mark, Token};
+use p3l_lexer::{Mark, TextToken};
 use std::alloc::Global;
 
 /// The name and the ports of a module.
@@ -33,7 +33,11 @@ pub struct Contents {
 }
 
 /// A clause, where its keyword comes next.
-fn clause(alloc: Global, tokens: &[Token], mark: Mark) -> Result<(Option<Num>, &[Token]), Refusal>
+fn clause(
+    alloc: Global,
+    tokens: &[TextToken],
+    mark: Mark,
+) -> Result<(Option<Num>, &[TextToken]), Refusal>
     ensures ok { IfOk result (λ x. Reads (clause mark) tokens.now x.0 x.1.now) }
     ensures shorter { IfOk result (λ x. length x.1.now ≤ length tokens.now) }
     ensures err { IfErr result (λ e. Fails (clause mark) tokens.now e) }
@@ -48,7 +52,7 @@ fn clause(alloc: Global, tokens: &[Token], mark: Mark) -> Result<(Option<Num>, &
 }
 
 /// A number or the name of a constant, after a minus where it is negated.
-fn rescue_number(alloc: Global, tokens: &[Token]) -> Result<(Rescue, &[Token]), Refusal>
+fn rescue_number(alloc: Global, tokens: &[TextToken]) -> Result<(Rescue, &[TextToken]), Refusal>
     ensures ok { IfOk result (λ x. Reads any_rescue tokens.now x.0 x.1.now) }
     ensures shorter { IfOk result (λ x. length x.1.now < length tokens.now) }
     ensures err { IfErr result (λ e. Fails any_rescue tokens.now e) }
@@ -66,7 +70,7 @@ fn rescue_number(alloc: Global, tokens: &[Token]) -> Result<(Rescue, &[Token]), 
 }
 
 /// The rescue of a `seq` or a `comp`, where its keyword comes next.
-fn rescue(alloc: Global, tokens: &[Token]) -> Result<(Option<Rescue>, &[Token]), Refusal>
+fn rescue(alloc: Global, tokens: &[TextToken]) -> Result<(Option<Rescue>, &[TextToken]), Refusal>
     ensures ok { IfOk result (λ x. Reads rescue_clause tokens.now x.0 x.1.now) }
     ensures shorter { IfOk result (λ x. length x.1.now ≤ length tokens.now) }
     ensures err { IfErr result (λ e. Fails rescue_clause tokens.now e) }
@@ -81,7 +85,7 @@ fn rescue(alloc: Global, tokens: &[Token]) -> Result<(Option<Rescue>, &[Token]),
 }
 
 /// The name and the ports of a module.
-fn whole_signature(alloc: Global, tokens: &[Token]) -> Result<(Heading, &[Token]), Refusal>
+fn whole_signature(alloc: Global, tokens: &[TextToken]) -> Result<(Heading, &[TextToken]), Refusal>
     ensures ok { IfOk result (λ x. Reads head tokens.now (signature_of x.0) x.1.now) }
     ensures shorter { IfOk result (λ x. length x.1.now < length tokens.now) }
     ensures err { IfErr result (λ e. Fails head tokens.now e) }
@@ -95,7 +99,7 @@ fn whole_signature(alloc: Global, tokens: &[Token]) -> Result<(Heading, &[Token]
 }
 
 /// The body of a `seq`.
-fn body(alloc: Global, tokens: &[Token]) -> Result<(Inside, &[Token]), Refusal>
+fn body(alloc: Global, tokens: &[TextToken]) -> Result<(Inside, &[TextToken]), Refusal>
     ensures ok { IfOk result (λ x. Reads body_from tokens.now (inside_tree x.0) x.1.now) }
     ensures shorter { IfOk result (λ x. length x.1.now < length tokens.now) }
     ensures err { IfErr result (λ e. Fails body_from tokens.now e) }
@@ -109,7 +113,7 @@ fn body(alloc: Global, tokens: &[Token]) -> Result<(Inside, &[Token]), Refusal>
 }
 
 /// The body and the condition of a `loop`.
-fn loop_calls(alloc: Global, tokens: &[Token]) -> Result<(Inside, &[Token]), Refusal>
+fn loop_calls(alloc: Global, tokens: &[TextToken]) -> Result<(Inside, &[TextToken]), Refusal>
     ensures ok { IfOk result (λ x. Reads loop_calls tokens.now (inside_tree x.0) x.1.now) }
     ensures shorter { IfOk result (λ x. length x.1.now < length tokens.now) }
     ensures err { IfErr result (λ e. Fails loop_calls tokens.now e) }
@@ -121,7 +125,7 @@ fn loop_calls(alloc: Global, tokens: &[Token]) -> Result<(Inside, &[Token]), Ref
 }
 
 /// Reads on after the head of a `seq`.
-fn seq(alloc: Global, tokens: &[Token]) -> Result<(Contents, &[Token]), Refusal>
+fn seq(alloc: Global, tokens: &[TextToken]) -> Result<(Contents, &[TextToken]), Refusal>
     ensures ok { IfOk result (λ x. Reads (filling Kind.Seq) tokens.now (filling_of x.0) x.1.now) }
     ensures shorter { IfOk result (λ x. length x.1.now < length tokens.now) }
     ensures err { IfErr result (λ e. Fails (filling Kind.Seq) tokens.now e) }
@@ -140,7 +144,7 @@ fn seq(alloc: Global, tokens: &[Token]) -> Result<(Contents, &[Token]), Refusal>
 }
 
 /// Reads on after the head of a `comp`.
-fn comp(alloc: Global, tokens: &[Token]) -> Result<(Contents, &[Token]), Refusal>
+fn comp(alloc: Global, tokens: &[TextToken]) -> Result<(Contents, &[TextToken]), Refusal>
     ensures ok { IfOk result (λ x. Reads (filling Kind.Comp) tokens.now (filling_of x.0) x.1.now) }
     ensures shorter { IfOk result (λ x. length x.1.now < length tokens.now) }
     ensures err { IfErr result (λ e. Fails (filling Kind.Comp) tokens.now e) }
@@ -159,7 +163,7 @@ fn comp(alloc: Global, tokens: &[Token]) -> Result<(Contents, &[Token]), Refusal
 }
 
 /// Reads on after the head of a `pipe`.
-fn pipe(alloc: Global, tokens: &[Token]) -> Result<(Contents, &[Token]), Refusal>
+fn pipe(alloc: Global, tokens: &[TextToken]) -> Result<(Contents, &[TextToken]), Refusal>
     ensures ok { IfOk result (λ x. Reads (filling Kind.Pipe) tokens.now (filling_of x.0) x.1.now) }
     ensures shorter { IfOk result (λ x. length x.1.now < length tokens.now) }
     ensures err { IfErr result (λ e. Fails (filling Kind.Pipe) tokens.now e) }
@@ -177,7 +181,7 @@ fn pipe(alloc: Global, tokens: &[Token]) -> Result<(Contents, &[Token]), Refusal
 }
 
 /// Reads on after the head of a `farm`, a `map` or a `reduce`.
-fn spread(alloc: Global, tokens: &[Token]) -> Result<(Contents, &[Token]), Refusal>
+fn spread(alloc: Global, tokens: &[TextToken]) -> Result<(Contents, &[TextToken]), Refusal>
     ensures ok { IfOk result (λ x. Reads (filling Kind.Farm) tokens.now (filling_of x.0) x.1.now) }
     ensures shorter { IfOk result (λ x. length x.1.now < length tokens.now) }
     ensures err { IfErr result (λ e. Fails (filling Kind.Farm) tokens.now e) }
@@ -198,7 +202,7 @@ fn spread(alloc: Global, tokens: &[Token]) -> Result<(Contents, &[Token]), Refus
 }
 
 /// Reads on after the head of a `loop`.
-fn turning(alloc: Global, tokens: &[Token]) -> Result<(Contents, &[Token]), Refusal>
+fn turning(alloc: Global, tokens: &[TextToken]) -> Result<(Contents, &[TextToken]), Refusal>
     ensures ok { IfOk result (λ x. Reads (filling Kind.Loop) tokens.now (filling_of x.0) x.1.now) }
     ensures shorter { IfOk result (λ x. length x.1.now < length tokens.now) }
     ensures err { IfErr result (λ e. Fails (filling Kind.Loop) tokens.now e) }
@@ -221,8 +225,8 @@ fn turning(alloc: Global, tokens: &[Token]) -> Result<(Contents, &[Token]), Refu
 fn whole_filling(
     alloc: Global,
     kind: Kind,
-    tokens: &[Token],
-) -> Result<(Contents, &[Token]), Refusal>
+    tokens: &[TextToken],
+) -> Result<(Contents, &[TextToken]), Refusal>
     ensures ok { IfOk result (λ x. Reads (filling kind) tokens.now (filling_of x.0) x.1.now) }
     ensures shorter { IfOk result (λ x. length x.1.now < length tokens.now) }
     ensures err { IfErr result (λ e. Fails (filling kind) tokens.now e) }
@@ -239,7 +243,7 @@ fn whole_filling(
 }
 
 /// The tokens after the end of a module.
-fn module_end(tokens: &[Token], kind: Kind) -> Result<&[Token], Refusal>
+fn module_end(tokens: &[TextToken], kind: Kind) -> Result<&[TextToken], Refusal>
     ensures ok { IfOk result (λ rest. Closes kind tokens.now rest.now) }
     ensures shorter { IfOk result (λ rest. length rest.now < length tokens.now) }
     ensures err { IfErr result (λ e. FailsEnd kind tokens.now e) }
@@ -249,7 +253,11 @@ fn module_end(tokens: &[Token], kind: Kind) -> Result<&[Token], Refusal>
 }
 
 /// Reads on after the keyword of a module.
-pub fn module(alloc: Global, kind: Kind, tokens: &[Token]) -> Result<(Entry, &[Token]), Refusal>
+pub fn module(
+    alloc: Global,
+    kind: Kind,
+    tokens: &[TextToken],
+) -> Result<(Entry, &[TextToken]), Refusal>
     ensures ok { IfOk result (λ x. Reads (module_from kind) tokens.now (entry_tree x.0) x.1.now) }
     ensures shorter { IfOk result (λ x. length x.1.now < length tokens.now) }
     ensures err { IfErr result (λ e. Fails (module_from kind) tokens.now e) }
@@ -269,7 +277,7 @@ pub fn module(alloc: Global, kind: Kind, tokens: &[Token]) -> Result<(Entry, &[T
 }
 
 /// Reads on after `const`.
-pub fn constant(alloc: Global, tokens: &[Token]) -> Result<(Entry, &[Token]), Refusal>
+pub fn constant(alloc: Global, tokens: &[TextToken]) -> Result<(Entry, &[TextToken]), Refusal>
     ensures ok { IfOk result (λ x. Reads fixed_from tokens.now (entry_tree x.0) x.1.now) }
     ensures shorter { IfOk result (λ x. length x.1.now < length tokens.now) }
     ensures err { IfErr result (λ e. Fails fixed_from tokens.now e) }

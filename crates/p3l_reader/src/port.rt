@@ -9,11 +9,11 @@ use crate::mark::{expect, num, skip, spot};
 use crate::refusal::Refusal;
 use p3l_ast::{Num, Port};
 use p3l_base::List;
-use p3l_lexer::{Mark, Token};
+use p3l_lexer::{Mark, TextToken};
 use std::alloc::Global;
 
 /// Reads on after the `int` of a port.
-pub fn port_name(alloc: Global, tokens: &[Token]) -> Result<(Port, &[Token]), Refusal>
+pub fn port_name(alloc: Global, tokens: &[TextToken]) -> Result<(Port, &[TextToken]), Refusal>
     ensures ok { IfOk result (λ x. Reads port_from tokens.now x.0 x.1.now) }
     ensures shorter { IfOk result (λ x. length x.1.now < length tokens.now) }
     ensures err { IfErr result (λ e. Fails port_from tokens.now e) }
@@ -24,7 +24,7 @@ pub fn port_name(alloc: Global, tokens: &[Token]) -> Result<(Port, &[Token]), Re
 }
 
 /// A port.
-fn port(alloc: Global, tokens: &[Token]) -> Result<(Port, &[Token]), Refusal>
+fn port(alloc: Global, tokens: &[TextToken]) -> Result<(Port, &[TextToken]), Refusal>
     ensures ok { IfOk result (λ x. Reads port tokens.now x.0 x.1.now) }
     ensures shorter { IfOk result (λ x. length x.1.now < length tokens.now) }
     ensures err { IfErr result (λ e. Fails port tokens.now e) }
@@ -34,7 +34,7 @@ fn port(alloc: Global, tokens: &[Token]) -> Result<(Port, &[Token]), Refusal>
 }
 
 /// Ports in parentheses, one at least.
-pub fn ports(alloc: Global, tokens: &[Token]) -> Result<(List<Port>, &[Token]), Refusal>
+pub fn ports(alloc: Global, tokens: &[TextToken]) -> Result<(List<Port>, &[TextToken]), Refusal>
     ensures ok { IfOk result (λ x. Reads ports tokens.now x.0 x.1.now) }
     ensures shorter { IfOk result (λ x. length x.1.now < length tokens.now) }
     ensures err { IfErr result (λ e. Fails ports tokens.now e) }
@@ -43,7 +43,7 @@ pub fn ports(alloc: Global, tokens: &[Token]) -> Result<(List<Port>, &[Token]), 
 }
 
 /// The next local variable, where one comes next.
-fn next_local(alloc: Global, tokens: &[Token]) -> Result<Option<(Port, &[Token])>, Refusal>
+fn next_local(alloc: Global, tokens: &[TextToken]) -> Result<Option<(Port, &[TextToken])>, Refusal>
     ensures some { IfOk result (λ o. IfSome o (λ x. Adds another_local tokens.now x.0 x.1.now)) }
     ensures shorter { IfOk result (λ o. IfSome o (λ x. length x.1.now < length tokens.now)) }
     ensures none { IfOk result (λ o. IfNone o (Leaves another_local tokens.now)) }
@@ -60,7 +60,7 @@ fn next_local(alloc: Global, tokens: &[Token]) -> Result<Option<(Port, &[Token])
 }
 
 /// The local variables of a body, as many as there are.
-pub fn locals(alloc: Global, tokens: &[Token]) -> Result<(List<Port>, &[Token]), Refusal>
+pub fn locals(alloc: Global, tokens: &[TextToken]) -> Result<(List<Port>, &[TextToken]), Refusal>
     ensures ok { IfOk result (λ x. Reads (another_local []) tokens.now x.0 x.1.now) }
     ensures shorter { IfOk result (λ x. length x.1.now ≤ length tokens.now) }
     ensures err { IfErr result (λ e. Fails (another_local []) tokens.now e) }
@@ -79,7 +79,7 @@ impl Listed for Num {
 
     ghost list = { another_size };
 
-    fn next(alloc: Global, tokens: &[Token]) -> Result<Option<(Num, &[Token])>, Refusal> {
+    fn next(alloc: Global, tokens: &[TextToken]) -> Result<Option<(Num, &[TextToken])>, Refusal> {
         match skip(tokens, Mark::OpenBracket) {
             Some(rest) => {
                 let (size, rest) = num(alloc, rest)?;
@@ -96,7 +96,7 @@ impl Listed for Port {
 
     ghost list = { another_port };
 
-    fn next(alloc: Global, tokens: &[Token]) -> Result<Option<(Port, &[Token])>, Refusal> {
+    fn next(alloc: Global, tokens: &[TextToken]) -> Result<Option<(Port, &[TextToken])>, Refusal> {
         match skip(tokens, Mark::Comma) {
             Some(rest) => Ok(Some(port(alloc, rest)?)),
             None => Ok(None),
@@ -109,7 +109,7 @@ impl Separated for Port {
 
     ghost one = { port };
 
-    fn one(alloc: Global, tokens: &[Token]) -> Result<(Port, &[Token]), Refusal> {
+    fn one(alloc: Global, tokens: &[TextToken]) -> Result<(Port, &[TextToken]), Refusal> {
         port(alloc, tokens)
     }
 }

@@ -10,7 +10,7 @@ use crate::module::{constant, module};
 use crate::refusal::Refusal;
 use p3l_ast::{Entry, Kind};
 use p3l_base::List;
-use p3l_lexer::{Mark, Token};
+use p3l_lexer::{Mark, TextToken};
 use std::alloc::Global;
 
 /// The kind of a module that begins with a mark.
@@ -30,7 +30,7 @@ fn kind_of(mark: Mark) -> Option<Kind>
 }
 
 /// The next entry.
-fn entry(alloc: Global, tokens: &[Token]) -> Result<(Entry, &[Token]), Refusal>
+fn entry(alloc: Global, tokens: &[TextToken]) -> Result<(Entry, &[TextToken]), Refusal>
     requires { 0 < length tokens.now }
     ensures ok { IfOk result (λ x. AddsEntry tokens.now (entry_tree x.0) x.1.now) }
     ensures shorter { IfOk result (λ x. length x.1.now < length tokens.now) }
@@ -49,7 +49,7 @@ fn entry(alloc: Global, tokens: &[Token]) -> Result<(Entry, &[Token]), Refusal>
 }
 
 /// The entries of the tokens.
-pub fn text(alloc: Global, tokens: &[Token]) -> Result<List<Entry>, Refusal>
+pub fn text(alloc: Global, tokens: &[TextToken]) -> Result<List<Entry>, Refusal>
     ensures ok { IfOk result (λ list. all (entries []) tokens.now ≡ Ok (map entry_tree list)) }
     ensures err { IfErr result (λ e. FailsText tokens.now e) }
 {

@@ -13,14 +13,14 @@ use crate::refusal::Refusal;
 use p3l_ast::{Entry, Fault, Pos, Program, SourceRefusal};
 use p3l_base::List;
 use p3l_grammar::nest::first_past;
-use p3l_lexer::{Lexeme, Token, end_of, tokens};
+use p3l_lexer::{Lexeme, TextToken, end_of, tokens};
 use std::alloc::Global;
 
 /// The most bytes of a source text.
 const LIMIT: usize = 1_048_576;
 
 /// The fault of a token with which no program goes on.
-fn own_fault(token: &Token) -> Fault
+fn own_fault(token: &TextToken) -> Fault
     ensures { result ≡ own_fault token.now.lexeme }
 {
     match token.lexeme {
@@ -30,7 +30,7 @@ fn own_fault(token: &Token) -> Fault
 }
 
 /// The fault in front of the tokens that are left, where no program goes on.
-fn wrong_at(left: &[Token], end: Pos) -> SourceRefusal
+fn wrong_at(left: &[TextToken], end: Pos) -> SourceRefusal
     ensures { result ≡ wrong_at left.now end }
 {
     match left {
@@ -46,7 +46,7 @@ fn wrong_at(left: &[Token], end: Pos) -> SourceRefusal
 }
 
 /// The last `left` tokens.
-fn last_tokens(tokens: &[Token], left: usize) -> &[Token]
+fn last_tokens(tokens: &[TextToken], left: usize) -> &[TextToken]
     requires { left ≤ length tokens.now }
     ensures { result.now ≡ drop (length tokens.now - left) tokens.now }
 {
@@ -54,7 +54,7 @@ fn last_tokens(tokens: &[Token], left: usize) -> &[Token]
 }
 
 /// The entries of tokens that pass no limit.
-fn within(alloc: Global, tokens: &[Token], end: Pos) -> Result<List<Entry>, SourceRefusal>
+fn within(alloc: Global, tokens: &[TextToken], end: Pos) -> Result<List<Entry>, SourceRefusal>
     requires { IsWithin at_rest (symbols tokens.now) }
     ensures found { IfOk result (λ list. Derives (symbols tokens.now) (map entry_tree list)) }
     ensures only { (entries : List EntryTree) → Derives (symbols tokens.now) entries
@@ -69,7 +69,7 @@ fn within(alloc: Global, tokens: &[Token], end: Pos) -> Result<List<Entry>, Sour
 }
 
 /// The refusal of a token that passes a limit.
-fn too_nested(token: &Token) -> SourceRefusal
+fn too_nested(token: &TextToken) -> SourceRefusal
     ensures { result ≡ too_nested token.now }
 {
     SourceRefusal::At {
@@ -78,12 +78,12 @@ fn too_nested(token: &Token) -> SourceRefusal
     }
 }
 
-/// The first fault of tokens of which the last alone passes a limit.
+/// The first fault of tokens when only the last passes a limit.
 fn beyond(
     alloc: Global,
-    tokens: &[Token],
-    before: &[Token],
-    last: &Token,
+    tokens: &[TextToken],
+    before: &[TextToken],
+    last: &TextToken,
     end: Pos,
 ) -> SourceRefusal
     requires whole { tokens.now ≡ before.now ++ last.now ∷ [] }
@@ -101,9 +101,9 @@ fn beyond(
 /// The same, where no program goes on with the tokens or none is whole.
 fn first_fault(
     refusal: Refusal,
-    tokens: &[Token],
-    before: &[Token],
-    last: &Token,
+    tokens: &[TextToken],
+    before: &[TextToken],
+    last: &TextToken,
     end: Pos,
 ) -> SourceRefusal
     requires fault { FailsText tokens.now refusal }
@@ -124,7 +124,7 @@ fn first_fault(
 }
 
 /// The entries of the tokens.
-fn entries(alloc: Global, tokens: &[Token], end: Pos) -> Result<List<Entry>, SourceRefusal>
+fn entries(alloc: Global, tokens: &[TextToken], end: Pos) -> Result<List<Entry>, SourceRefusal>
     ensures found { IfOk result (λ list. Derives (symbols tokens.now) (map entry_tree list)) }
     ensures within { IfOk result (λ _. IsWithin at_rest (symbols tokens.now)) }
     ensures only { (entries : List EntryTree) → Derives (symbols tokens.now) entries

@@ -9,11 +9,11 @@ use crate::expr::{index, upto};
 use crate::mark::{expect, skip, spot, word_comes};
 use crate::refusal::Refusal;
 use p3l_ast::{Expr, Stmt, Target};
-use p3l_lexer::{Mark, Token};
+use p3l_lexer::{Mark, TextToken};
 use std::alloc::Global;
 
 /// A place that is assigned.
-fn target(alloc: Global, tokens: &[Token]) -> Result<(Target, &[Token]), Refusal>
+fn target(alloc: Global, tokens: &[TextToken]) -> Result<(Target, &[TextToken]), Refusal>
     ensures ok { IfOk result (λ x. Targets tokens.now x.0.at (phrases x.0.index.items) x.1.now) }
     ensures shorter { IfOk result (λ x. length x.1.now < length tokens.now) }
     ensures err { IfErr result (λ e. FailsTarget tokens.now e) }
@@ -24,7 +24,11 @@ fn target(alloc: Global, tokens: &[Token]) -> Result<(Target, &[Token]), Refusal
 }
 
 /// An assignment up to a mark, and what follows the mark.
-fn setting(alloc: Global, tokens: &[Token], mark: Mark) -> Result<(Target, Expr, &[Token]), Refusal>
+fn setting(
+    alloc: Global,
+    tokens: &[TextToken],
+    mark: Mark,
+) -> Result<(Target, Expr, &[TextToken]), Refusal>
     ensures ok { IfOk result (λ x. Sets mark tokens.now x.0.at (phrases x.0.index.items)
         (phrase x.1) x.2.now) }
     ensures shorter { IfOk result (λ x. length x.2.now < length tokens.now) }
@@ -37,7 +41,7 @@ fn setting(alloc: Global, tokens: &[Token], mark: Mark) -> Result<(Target, Expr,
 }
 
 /// A condition in parentheses.
-fn test(alloc: Global, tokens: &[Token]) -> Result<(Expr, &[Token]), Refusal>
+fn test(alloc: Global, tokens: &[TextToken]) -> Result<(Expr, &[TextToken]), Refusal>
     ensures ok { IfOk result (λ x. Reads test tokens.now (phrase x.0) x.1.now) }
     ensures shorter { IfOk result (λ x. length x.1.now < length tokens.now) }
     ensures err { IfErr result (λ e. Fails test tokens.now e) }
@@ -47,7 +51,7 @@ fn test(alloc: Global, tokens: &[Token]) -> Result<(Expr, &[Token]), Refusal>
 }
 
 /// An assignment, where the next token is a name.
-fn assignment(alloc: Global, tokens: &[Token]) -> Result<(Stmt, &[Token]), Refusal>
+fn assignment(alloc: Global, tokens: &[TextToken]) -> Result<(Stmt, &[TextToken]), Refusal>
     requires { IsWord tokens.now }
     ensures ok { IfOk result (λ x. AddsStmt tokens.now (one x.0) x.1.now) }
     ensures shorter { IfOk result (λ x. length x.1.now < length tokens.now) }
@@ -59,7 +63,7 @@ fn assignment(alloc: Global, tokens: &[Token]) -> Result<(Stmt, &[Token]), Refus
 
 /// Reads on after an `if`.
 #[cycle(statement)]
-fn if_statement(alloc: Global, tokens: &[Token]) -> Result<(Stmt, &[Token]), Refusal>
+fn if_statement(alloc: Global, tokens: &[TextToken]) -> Result<(Stmt, &[TextToken]), Refusal>
     ensures ok { IfOk result (λ x. FollowsIf tokens.now (one x.0) x.1.now) }
     ensures shorter { IfOk result (λ x. length x.1.now < length tokens.now) }
     ensures err { IfErr result (λ e. FailsIf tokens.now e) }
@@ -77,7 +81,7 @@ fn if_statement(alloc: Global, tokens: &[Token]) -> Result<(Stmt, &[Token]), Ref
 
 /// Reads on after a `while`.
 #[cycle(statement)]
-fn while_statement(alloc: Global, tokens: &[Token]) -> Result<(Stmt, &[Token]), Refusal>
+fn while_statement(alloc: Global, tokens: &[TextToken]) -> Result<(Stmt, &[TextToken]), Refusal>
     ensures ok { IfOk result (λ x. Reads while_from tokens.now (one x.0) x.1.now) }
     ensures shorter { IfOk result (λ x. length x.1.now < length tokens.now) }
     ensures err { IfErr result (λ e. Fails while_from tokens.now e) }
@@ -89,7 +93,7 @@ fn while_statement(alloc: Global, tokens: &[Token]) -> Result<(Stmt, &[Token]), 
 
 /// Reads on after a `for`.
 #[cycle(statement)]
-fn for_statement(alloc: Global, tokens: &[Token]) -> Result<(Stmt, &[Token]), Refusal>
+fn for_statement(alloc: Global, tokens: &[TextToken]) -> Result<(Stmt, &[TextToken]), Refusal>
     ensures ok { IfOk result (λ x. Reads for_from tokens.now (one x.0) x.1.now) }
     ensures shorter { IfOk result (λ x. length x.1.now < length tokens.now) }
     ensures err { IfErr result (λ e. Fails for_from tokens.now e) }
@@ -104,7 +108,7 @@ fn for_statement(alloc: Global, tokens: &[Token]) -> Result<(Stmt, &[Token]), Re
 
 /// Statements in braces.
 #[cycle(statement)]
-fn block(alloc: Global, tokens: &[Token]) -> Result<(Vec<Stmt>, &[Token]), Refusal>
+fn block(alloc: Global, tokens: &[TextToken]) -> Result<(Vec<Stmt>, &[TextToken]), Refusal>
     ensures ok { IfOk result (λ x. Reads block tokens.now (statements x.0.items) x.1.now) }
     ensures shorter { IfOk result (λ x. length x.1.now < length tokens.now) }
     ensures err { IfErr result (λ e. Fails block tokens.now e) }
@@ -117,7 +121,7 @@ fn block(alloc: Global, tokens: &[Token]) -> Result<(Vec<Stmt>, &[Token]), Refus
 
 /// The next statement, where one comes next.
 #[cycle(statement)]
-fn next_stmt(alloc: Global, tokens: &[Token]) -> Result<Option<(Stmt, &[Token])>, Refusal>
+fn next_stmt(alloc: Global, tokens: &[TextToken]) -> Result<Option<(Stmt, &[TextToken])>, Refusal>
     ensures some { IfOk result (λ o. IfSome o (λ x. AddsStmt tokens.now (one x.0) x.1.now)) }
     ensures shorter { IfOk result (λ o. IfSome o (λ x. length x.1.now < length tokens.now)) }
     ensures none { IfOk result (λ o. IfNone o (LeavesStmts tokens.now)) }
@@ -140,7 +144,7 @@ fn next_stmt(alloc: Global, tokens: &[Token]) -> Result<Option<(Stmt, &[Token])>
 
 /// Statements, as many as there are.
 #[cycle(statement)]
-pub fn stmts(alloc: Global, tokens: &[Token]) -> Result<(Vec<Stmt>, &[Token]), Refusal>
+pub fn stmts(alloc: Global, tokens: &[TextToken]) -> Result<(Vec<Stmt>, &[TextToken]), Refusal>
     ensures ok { IfOk result (λ x. Reads (another_stmt done) tokens.now (statements x.0.items)
         x.1.now) }
     ensures shorter { IfOk result (λ x. length x.1.now ≤ length tokens.now) }

@@ -47,7 +47,7 @@ module _ (f : ℕ → Bool) where
         | inr e ↦ let h : one (f a) ≡ 0 = cond-false (f a) 1 0 e in omega (arith, r, h)
       ]
 
-  -- where the count is 0, a search finds nothing
+  -- a search finds nothing if the count is 0
   pub none-counted : (a n : ℕ) → count_from f a n ≡ 0 → find f (range_with_len a n) ≡ None
   unfolding count_from
   none-counted a zero h = refl
@@ -59,7 +59,7 @@ module _ (f : ℕ → Bool) where
             cond-false (f a) _ _ e ∙ none-counted (a + 1) n rest
       ]
 
-  -- where a search finds nothing, it finds nothing in the front
+  -- a search that finds nothing finds nothing in the front
   pub none-front : (a n k : ℕ) → find f (range_with_len a (n + k)) ≡ None → find f (range_with_len a n) ≡ None
   none-front a n k h = left (find f (range_with_len a n)) _ (sym (find-append f (range_with_len a n) (range_with_len (a + n) k)) ∙ ap (find f) (sym (range-split a n k)) ∙ h)
     where

@@ -16,7 +16,7 @@ range-split a (suc n) k =
     ap (range_with_len a) e ∙ ap (λ xs. a ∷ xs) (range-split (a + 1) n k ∙ ap (λ x. range_with_len (a + 1) n ++ range_with_len x k) f)
 
 module _ (test : ℕ → Bool) where
-  -- where nothing passes before p, a range that goes on is searched from p
+  -- a range that goes on is searched from p if nothing passes before p
   search_from : (a n k p : ℕ) → a + n ≡ p → find test (range_with_len a n) ≡ None → find test (range_with_len a (n + suc k)) ≡ cond (test p) (Some p) (find test (range_with_len (p + 1) k))
   search_from a n k p e none =
       ap (find test) (range-split a n (suc k))
@@ -36,7 +36,7 @@ module _ (test : ℕ → Bool) where
       let f : from + (p - from) ≡ p = omega arith in
       ap (λ n. find test (range_with_len from n)) e ∙ search_from from (p - from) zero p f none ∙ cond-false (test p) _ _ fail
 
-  -- what is found passes, and is in the range
+  -- a found number passes, and is in the range
   pub found_passes : (a n p : ℕ) → find test (range_with_len a n) ≡ Some p → (p < a + n) × (test p ≡ true)
   found_passes a zero p h = cc
   found_passes a (suc n) p h =
@@ -50,7 +50,7 @@ module _ (test : ℕ → Bool) where
             (omega (arith, later.0), later.1)
       ]
 
-  -- where nothing is found, nothing in the range passes
+  -- nothing in the range passes if nothing is found
   pub none_passes : (a n p : ℕ) → find test (range_with_len a n) ≡ None → a ≤ p → p < a + n → test p ≡ false
   none_passes a zero p h low high = absurd (omega arith)
   none_passes a (suc n) p h low high =

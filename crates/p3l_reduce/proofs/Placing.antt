@@ -1,4 +1,4 @@
--- What the loops that place the joins and the folds add, step by step.
+-- The processes and channels added by the loops that place the joins and the folds, step by step.
 use Rattle.std.proofs.Common.{◌≡◌, ◌≢◌, ◌<◌, ◌≤◌, ◌+◌, ◌-◌, ◌/◌, replicate, length-append, append_assoc, append-nil, ◌*◌, ◌^◌, ℕ, zero, suc, List, [], ◌∷◌, ◌++◌, length, get_or, drop, drop-cons, ap, ap₂, ◌∙◌, refl, arith, inl, inr, lt-ltb, le-ltb}
 use Rattle.std.proofs.Math.Nat.{pow-succ'}
 use Rattle.std.proofs.lemmas.Bool.{cases_eq, cond-true, cond-false}
@@ -108,7 +108,7 @@ more_chans b b' n cap e =
 pub more_procs : (b b' : Net) (qs : List Proc) → b' ≡ added b qs [] → length b'.procs ≡ length b.procs + length qs
 more_procs b b' qs e = ap (λ z. length z.procs) e ∙ length-append b.procs qs
 
--- what the five steps add
+-- the five steps together add the tree's processes and channels
 pub tree_built : (b b1 b2 b3 b4 b5 : Net) (k m cap : ℕ) (sp sp' : Proc) (js js' fs fs' : List Proc) → k ≡ m → sp ≡ sp' →
     js ≡ js' → fs ≡ fs' → b1 ≡ record { procs = b.procs; chans = b.chans ++ replicate k (empty_chan cap) } →
     b2 ≡ record { procs = b1.procs; chans = b1.chans ++ replicate (k + k - 2) (empty_chan cap) } →
@@ -128,7 +128,7 @@ tree_built b b1 b2 b3 b4 b5 k m cap sp sp' js js' fs fs' ek es ej ef h1 h2 h3 h4
     (procs ∙ ap₂ (λ x y. b.procs ++ (x ∷ y)) es (ap₂ (λ x y. x ++ y) ej ef))
     (chans ∙ ap (λ z. b.chans ++ replicate (z + (z + z - 2)) (empty_chan cap)) ek)
 
--- which shape a level has
+-- the shape of a level
 pub shape_one : (node len level : ℕ) → level ≡ 0 → reduce_shape node len level ≡ run_shape node
 unfolding reduce_shape
 shape_one node len level e = ap (reduce_shape node len) e
@@ -139,7 +139,7 @@ unfolding reduce_shape
 shape_tree node len zero h = absurd (h refl)
 shape_tree node len (suc d) h = ap (λ z. tree_shape node (2 ^ suc d) z len) {x = d} {y = suc d - 1} (omega arith)
 
--- how many processes and channels it has at a level
+-- the numbers of processes and channels at a level
 pub one_proc : (node len level : ℕ) → level ≡ 0 → (base : Base) → length ((reduce_shape node len level).procs base) ≡ 1
 one_proc node len level e base = ap (λ shape. length (shape.procs base)) (shape_one node len level e)
 
@@ -158,7 +158,7 @@ pub many_chans : (node len level : ℕ) → level ≢ 0 → (base : Base) →
 many_chans node len level h base = ap (λ shape. shape.chans base) (shape_tree node len level h)
 
 -- it has no inner parts
-pub no_seats : (node len level : ℕ) (base : Base) → (reduce_shape node len level).seats base ≡ []
+pub no_slots : (node len level : ℕ) (base : Base) → (reduce_shape node len level).slots base ≡ []
 unfolding reduce_shape
-no_seats node len zero base = refl
-no_seats node len (suc d) base = refl
+no_slots node len zero base = refl
+no_slots node len (suc d) base = refl

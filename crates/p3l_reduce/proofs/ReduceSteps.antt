@@ -161,7 +161,7 @@ module _ (m : ℕ) (base : Base) (s : State) where
   flow_is_bare : (d q : ℕ) → bares (flow h v d q) ≡ flow h v d q
   flow_is_bare d q = sym (flow-bare h v d q) ∙ ap (λ w. flow h w d q) same_view
 
-  -- what is found at a join, by what is found at the two places below it
+  -- the finding at a join, by the findings at the two places below it
   abbrev joint : (d l r : ℕ) → Finding
   joint d l r = record {
     orderly = matched (flow h v d l) (flow h v d r) && (even h v d l && even h v d r);

@@ -1,4 +1,4 @@
--- What the joins make of the segments' folds is the tree fold of the whole, for any power of two of segments that is
+-- The joins turn the segments' folds into the tree fold of the whole, for any power of two of segments that is
 -- no more than the elements: the leaves below place r are the places from 2 ^ d * r on, and a segment cut in two
 -- folds as its halves combined.
 use Rattle.std.proofs.Common.{◌≡◌, ℕ, ℤ, zero, suc, ◌+◌, ◌-◌, ◌*◌, ◌/◌, ◌^◌, ◌≤◌, ◌<◌, List, [], ◌∷◌, ◌++◌, length, map, get_or, refl, sym, ap, ap₂, ◌∙◌, arith, length-append}

@@ -64,7 +64,7 @@ even g v zero r = true
 even g v (suc d) r =
     matched (flow g v d (r + r)) (flow g v d (suc (r + r))) && (even g v d (r + r) && even g v d (suc (r + r)))
 
--- where Split holds a token, k is the number of a segment
+-- true exactly if k is the number of a segment, or Split holds no token
 unfoldable pub split_ok : Folding → List Token → ℕ → Bool
 split_ok g [] k = true
 split_ok g (x ∷ xs) k = nat_lt k g.count
@@ -77,7 +77,7 @@ unfoldable pub left_flows : Folding → View → ℕ → ℕ → ℕ
 left_flows g v zero r = 0
 left_flows g v (suc d) r = length (flow g v d (r + r)) + (left_flows g v d (r + r) + left_flows g v d (suc (r + r)))
 
--- what Split still needs for the token that it holds
+-- the firings still owed for the token that Split holds
 unfoldable pub to_send : Folding → List Token → ℕ → ℕ
 to_send g [] k = 0
 to_send g (x ∷ xs) k = 2 * (g.count - k)

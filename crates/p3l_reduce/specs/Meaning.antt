@@ -1,10 +1,10 @@
--- What comes out of the joins.
+-- Outcomes of the joins of a reduce.
 use Rattle.std.specs.Prelude.{◌≡◌, ℕ, ℤ, ◌^◌, ◌≤◌, ◌<◌, List, [], length, get_or}
 use Rattle.p3l_base.specs.declared.outcome.Outcome.{Outcome}
 use Rattle.p3l_skel.specs.Fold.{combined, tree_fold, segments}
 use Rattle.p3l_reduce.specs.JoinTree.{Folding, joined, leaf_of}
 
--- where each segment is folded and the joins combine, what comes out of place 1 is the tree fold of the whole
+-- place 1 gives the tree fold of the whole, if each segment is folded and the joins combine
 abbrev pub JoinsFoldTheWhole : Type 0
 JoinsFoldTheWhole =
     (operator : List ℤ → Outcome) (level : ℕ) (outcomes : List Outcome) (g : Folding) (o : Outcome) →

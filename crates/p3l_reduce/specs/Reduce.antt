@@ -11,7 +11,7 @@ use Rattle.p3l_firing.specs.declared.process.ProcKind.TheVariants.{Run, Split, J
 use Rattle.p3l_reduce.specs.JoinTree.{Folding, View, joined, after_node, well_kept, owed_in}
 use Rattle.p3l_template.specs.Part.{Part}
 use Rattle.p3l_template.specs.Run.{run_shape}
-use Rattle.p3l_template.specs.Shape.{empty_chan, Shape, Base, numbers_from}
+use Rattle.p3l_template.specs.Shape.{empty_chan, Blueprint, Base, numbers_from}
 use Rattle.p3l_template.specs.Units.{Units, outcome_at}
 use Rattle.p3l_firing.specs.Nodes.{segment_of, operator_of}
 
@@ -94,7 +94,7 @@ tree_part units node m d base =
       owed = λ s. owed_in (folding_of units node m) (suc d) (view_of base m s);
     }
 
-abbrev pub tree_shape : ℕ → ℕ → ℕ → ℕ → Shape
+abbrev pub tree_shape : ℕ → ℕ → ℕ → ℕ → Blueprint
 tree_shape node m d len =
     record {
       procs = λ base.
@@ -104,14 +104,14 @@ tree_shape node m d len =
       chans = λ base. m + (m + m - 2);
       laid = λ cap base. replicate (m + (m + m - 2)) (empty_chan cap);
       inner = 0;
-      seats = λ base. [];
+      slots = λ base. [];
       meaning = λ units roles. joined (folding_of units node m) (suc d) 1;
       firings = λ units roles. 3 * m;
       part = λ units roles base parts. tree_part units node m d base;
     }
 
 -- of 2 to the power level segments, over an in token of len elements
-unfoldable pub reduce_shape : ℕ → ℕ → ℕ → Shape
+unfoldable pub reduce_shape : ℕ → ℕ → ℕ → Blueprint
 reduce_shape node len zero = run_shape node
 reduce_shape node len (suc d) = tree_shape node (2 ^ suc d) d len
 

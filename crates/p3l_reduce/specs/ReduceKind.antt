@@ -29,7 +29,7 @@ reduce_widths elem len t joined (suc d) =
 abbrev pub bare_folding : ℕ → Folding
 bare_folding m = record { count = m; segment = λ s o. Value []; fold = λ o. Value []; operator = λ o p. Value [] }
 
--- what a reduce of m segments shows of a state, without the outcomes
+-- the view of a reduce of m segments, without the outcomes
 abbrev pub seen_of : Base → ℕ → State → View
 seen_of base m s =
     record {
@@ -39,12 +39,12 @@ seen_of base m s =
       sent = (s.own base.proc).number;
     }
 
--- what is found at place q of m segments, with d levels of joins down from it: whether the flows of these joins match, and the
+-- the finding at place q of m segments, with d levels of joins down from it: true if the flows of these joins match, and the
 -- tokens still to come to its channel
 unfoldable pub found_from : (m d q : ℕ) → View → Finding
 found_from m d q v = record { orderly = even (bare_folding m) v d q; pending = after_node (bare_folding m) v d q }
 
--- what is found in a reduce of m segments, where m is 2 to the power d
+-- the finding in a reduce of m segments, where m is 2 to the power d
 unfoldable pub found_by : (m d : ℕ) → View → Finding
 found_by m d v =
     record { orderly = well_kept (bare_folding m) d v; pending = after_node (bare_folding m) v d 1 }

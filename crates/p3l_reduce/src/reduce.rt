@@ -15,10 +15,10 @@ use crate::segments::{level_within, segment_count};
 use crate::tree::place_tree;
 use crate::widths::{elem_of, push_reduce};
 use p3l_base::{List, NoMemory};
-use p3l_firing::Token;
+use p3l_firing::{Shot, Token};
 use p3l_skel::Tree;
 use p3l_template::width::outs_width;
-use p3l_template::{Builder, Kind, Place, Ports, RunTemplate, Seat, Snapshot, Template, Width};
+use p3l_template::{Builder, Kind, Ports, RunTemplate, Site, Slot, Template, Width};
 use std::alloc::Global;
 
 /// A reduce of `len` elements, which are cut into `segments` segments: these are folded side by
@@ -94,7 +94,7 @@ impl Kind for ReduceTemplate {
         3 * segment_count(level) as usize - 2
     }
 
-    fn seats(&self, alloc: Global, _place: &Place) -> Result<List<Seat>, NoMemory> {
+    fn slots(&self, alloc: Global, _place: &Site) -> Result<List<Slot>, NoMemory> {
         Ok(List::new(alloc))
     }
 
@@ -121,15 +121,15 @@ impl Kind for ReduceTemplate {
         &self,
         alloc: Global,
         _tree: &Tree,
-        snapshot: &Snapshot,
-        place: &Place,
+        shot: &Shot,
+        place: &Site,
         _inner: &[List<Token>],
     ) -> Result<Option<List<Token>>, NoMemory> {
         let level = self.level();
         if level == 0 {
             return Ok(Some(List::new(alloc)));
         }
-        in_joins(alloc, snapshot, place, level)
+        in_joins(alloc, shot, place, level)
     }
 
     ghost tagged = { λ t tree node. reduce_tagged t.node t.len (level_of t.segments) tree node };

@@ -1,4 +1,4 @@
--- Which verdicts have a status.
+-- The verdicts that have a given status.
 use Rattle.std.proofs.Common.{◌≡◌, ◌⊎◌, ◌==◌, ℕ, Bool, true, false, List, Option, inl, inr, refl, sym, ap, ◌∙◌, arith}
 use Rattle.p3l_base.specs.declared.outcome.TrapKind.{TrapKind}
 use Rattle.p3l_stream.specs.declared.items.Ending.{Ending}
@@ -46,7 +46,7 @@ finish_no_write : (f : Finish) → is_write (finish_status f) ≡ false
 finish_no_write (finish.Run e) = end_no_write e
 finish_no_write _ = refl
 
--- nor is one of them want of memory
+-- none of them is out of memory
 abbrev is_no_memory : ℕ → Bool
 is_no_memory n = n == status.no_memory
 
@@ -140,7 +140,7 @@ write_is (verdict.Ended f s) h = absurd (let z = sym (finish_no_write f) ∙ ap 
 write_is verdict.WriteFault h = refl
 write_is verdict.NoMemory h = absurd (omega arith)
 
--- 11 is want of memory alone
+-- 11 is out of memory alone
 pub no_memory_is : (v : Verdict) → status_of v ≡ status.no_memory → v ≡ verdict.NoMemory
 no_memory_is (verdict.Refused r) h = absurd (let z = sym (refusal_no_memory r) ∙ ap is_no_memory h in cc)
 no_memory_is (verdict.Ended f s) h = absurd (let z = sym (finish_no_memory f) ∙ ap is_no_memory h in cc)

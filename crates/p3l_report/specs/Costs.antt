@@ -1,4 +1,4 @@
--- What the lines of refused cost files say.
+-- Lines of refused cost files.
 use Rattle.std.specs.Prelude.{ℕ, List, ◌++◌, codes}
 use Rattle.p3l_cost.specs.declared.refusal.CostRefusal.{CostRefusal}
 use Rattle.p3l_cost.specs.declared.refusal.CostRefusal.TheVariants as costs

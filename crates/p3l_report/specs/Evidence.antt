@@ -1,4 +1,4 @@
--- What the lines of refused evidence say: evidence: NUMBER NAME, and the values of the refusal.
+-- Lines of refused evidence: evidence: NUMBER NAME, and the values of the refusal.
 use Rattle.std.specs.Prelude.{ℕ, List, ◌++◌, codes}
 use Rattle.std.specs.Fmt.{decimal}
 use Rattle.p3l_cert.specs.declared.cert.CertRefusal.{CertRefusal}

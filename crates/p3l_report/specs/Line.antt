@@ -1,10 +1,11 @@
--- What the lines for the standard error say.
+-- Lines for the standard error.
 use Rattle.std.specs.Prelude.{ℕ, List, ◌++◌, codes}
 use Rattle.std.specs.Fmt.{decimal}
 use Rattle.p3l_ast.specs.declared.refusal.Fault.{Fault}
 use Rattle.p3l_ast.specs.declared.position.Pos.{Pos}
 use Rattle.p3l_ast.specs.Refusal as source
 use Rattle.p3l_base.specs.declared.outcome.TrapKind.{TrapKind}
+use Rattle.p3l_run.specs.declared.end.RunStats.{RunStats}
 use Rattle.p3l_report.specs.declared.stats.Stats.{Stats}
 use Rattle.p3l_report.specs.declared.stats.Stats.TheVariants as stats
 use Rattle.p3l_report.specs.Trap.{kind_text}
@@ -44,13 +45,16 @@ abbrev pub trap_line : ℕ → TrapKind → List ℕ → List ℕ
 trap_line item kind home =
     codes "trap: item " ++ (decimal item ++ (codes ": " ++ (kind_text kind ++ (codes " in " ++ (home ++ codes "\n")))))
 
--- stats: items N, fired F, idle I, bound B; of a run in virtual time
+-- items N, fired F, idle I, bound B
+abbrev pub numbers_text : RunStats → List ℕ
+numbers_text numbers =
+    codes "items " ++ (decimal numbers.items ++ (codes ", fired " ++ (decimal numbers.fired ++ (codes ", idle " ++ (decimal numbers.idle ++ (codes ", bound " ++ decimal numbers.bound))))))
+
+-- stats: NUMBERS; of a run in virtual time
 -- time: items N, fired F, finish T, busiest P B; and of a run whose state was saved
 -- saved: items K, picks A
 abbrev pub stats_line : Stats → List ℕ
-stats_line (stats.Scheduled numbers) =
-    codes "stats: items " ++ (decimal numbers.items ++ (codes ", fired " ++ (decimal numbers.fired ++ (codes ", idle " ++ (decimal numbers.idle
-    ++ (codes ", bound " ++ (decimal numbers.bound ++ codes "\n")))))))
+stats_line (stats.Scheduled numbers) = codes "stats: " ++ (numbers_text numbers ++ codes "\n")
 stats_line (stats.Timed items fired finish busiest busy) =
     codes "time: items " ++ (decimal items ++ (codes ", fired " ++ (decimal fired ++ (codes ", finish " ++ (decimal finish
     ++ (codes ", busiest " ++ (decimal busiest ++ (codes " " ++ (decimal busy ++ codes "\n")))))))))

@@ -1,4 +1,4 @@
--- What the lines of refused scans say.
+-- Lines of refused scans.
 use Rattle.std.specs.Prelude.{ℕ, List, codes}
 use Rattle.p3l_scan.specs.declared.refusal.ScanRefusal.{ScanRefusal}
 use Rattle.p3l_scan.specs.declared.refusal.ScanRefusal.TheVariants as scan

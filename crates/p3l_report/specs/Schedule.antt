@@ -1,4 +1,4 @@
--- What the lines of refused files of picks say.
+-- Lines of refused files of picks.
 use Rattle.std.specs.Prelude.{ℕ, List, ◌++◌, codes}
 use Rattle.std.specs.Fmt.{decimal}
 use Rattle.p3l_sched.specs.declared.refusal.PickRefusal.{PickRefusal}

@@ -1,4 +1,4 @@
--- How the kinds of traps are printed.
+-- Printed names of the kinds of traps.
 use Rattle.std.specs.Prelude.{ℕ, List, codes}
 use Rattle.p3l_base.specs.declared.outcome.TrapKind.{TrapKind}
 use Rattle.p3l_base.specs.declared.outcome.TrapKind.TheVariants.{DivZero, DivOver, Index, Shift, Budget, Turns}

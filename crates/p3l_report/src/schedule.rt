@@ -6,13 +6,13 @@ ghost use Rattle.std.specs.Fmt.{decimal};
 ghost use Rattle.p3l_report.specs.LineText.{line_text};
 ghost use Rattle.p3l_report.specs.Schedule.{process_line, schedule_line};
 
-use crate::line::{Line, no_memory_line, refused_line};
+use crate::line::{MessageLine, no_memory_line, refused_line};
 use p3l_base::NoMemory;
 use p3l_sched::PickRefusal;
 use std::alloc::Global;
 
 /// The line of a file of picks that is refused.
-pub fn schedule_line(alloc: Global, refusal: PickRefusal) -> Result<Line, NoMemory>
+pub fn schedule_line(alloc: Global, refusal: PickRefusal) -> Result<MessageLine, NoMemory>
     ensures { IfGiven result (λ line. line_text line ≡ schedule_line refusal) }
 {
     match refusal {
@@ -23,9 +23,9 @@ pub fn schedule_line(alloc: Global, refusal: PickRefusal) -> Result<Line, NoMemo
 }
 
 /// The line of a pick that is the number of no process.
-fn process_line(alloc: Global, number: u64, pick: u64, count: u32) -> Result<Line, NoMemory>
+fn process_line(alloc: Global, number: u64, pick: u64, count: u32) -> Result<MessageLine, NoMemory>
     ensures { IfGiven result (λ line. line_text line ≡ process_line number pick count) }
 {
     let text = format!(in alloc; "schedule: line {number}: 96 NoSuchProcess {pick} of {count}\n")?;
-    Ok(Line::Made(text))
+    Ok(MessageLine::Made(text))
 }

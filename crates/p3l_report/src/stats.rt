@@ -9,22 +9,22 @@ pub enum Stats {
     Scheduled(RunStats),
     /// Of a run in virtual time.
     Timed {
-        /// How many items the source process has sent.
+        /// The number of items that the source process has sent.
         items: u64,
-        /// How many firings there were.
+        /// The number of firings.
         fired: u64,
         /// The moment of the last firing, in ticks.
         finish: u128,
         /// The process that was busy longest, the lowest of equals.
         busiest: u32,
-        /// How long it was busy, in ticks.
+        /// The time that it was busy, in ticks.
         busy: u128,
     },
     /// Of a run whose state was saved.
     Saved {
-        /// How many items the network was offered.
+        /// The number of items that the network was offered.
         items: u64,
-        /// How many picks were used.
+        /// The number of picks used.
         picks: u64,
     },
 }

@@ -1,4 +1,4 @@
-// How the program names the kinds of traps.
+// The program's names for the kinds of traps.
 
 ghost use Rattle.std.specs.Prelude.{◌≡◌};
 ghost use Rattle.p3l_report.specs.Trap.{kind_text};

@@ -1,4 +1,4 @@
-// How a command ends, and the status that stands for it.
+// Verdicts on commands, and the status of each.
 
 ghost use Rattle.std.specs.Prelude.{◌≡◌};
 ghost use Rattle.p3l_report.specs.Verdict.{end_status, ending_status, finish_status, is_no_memory, refusal_status, status_of, verdict_of};
@@ -45,7 +45,7 @@ pub enum Refusal {
     Scan(ScanRefusal),
 }
 
-/// How a command came to its end, with all written that was to be written by then.
+/// Ends of commands that were not refused, after all their writing has succeeded.
 #[derive(Drop)]
 pub enum Finish {
     /// All that the command makes was written.
@@ -56,7 +56,7 @@ pub enum Finish {
     Differs { line: u64 },
 }
 
-/// How a command ended, with all that its lines say.
+/// Verdicts on commands, with all values that their lines report.
 #[derive(Drop)]
 pub enum Verdict {
     /// Refused, with nothing touched; by a refusal that says other than that memory ran out.

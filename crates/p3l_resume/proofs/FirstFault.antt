@@ -2,7 +2,7 @@
 use Rattle.std.proofs.Common.{◌≡◌, ℕ, ◌-◌, List, ◌∷◌, ◌++◌, length, Result, Ok, Err, refl, sym, ap, subst, ◌∙◌, arith}
 use Rattle.std.proofs.lemmas.List.{length-append}
 use Rattle.p3l_format.specs.declared.fault.Cause.TheVariants.{Short}
-use Rattle.p3l_format.specs.declared.fault.Fault.{Fault}
+use Rattle.p3l_format.specs.declared.fault.FieldFault.{FieldFault}
 use Rattle.p3l_format.specs.Format.{fault_at, read_all}
 use Rattle.p3l_format.specs.Places.{Piece, texts}
 use Rattle.p3l_resume.specs.declared.saved.Saved.{Saved}
@@ -14,11 +14,11 @@ use Rattle.p3l_resume.specs.Saved.{saved_format}
 use Rattle.p3l_resume.specs.laws.Places.{placed_saved}
 
 -- a reading that fails in a snapshot's format fails for the whole
-fails_whole : (bytes : List ℕ) (fault : Fault) → saved_format.read bytes ≡ Err fault → read_all saved_format bytes ≡ Err fault
+fails_whole : (bytes : List ℕ) (fault : FieldFault) → saved_format.read bytes ≡ Err fault → read_all saved_format bytes ≡ Err fault
 fails_whole bytes fault is = rw is refl
 
 -- the answer where reading fails with this many bytes left
-answered_at : (bytes : List ℕ) (answer : Result Saved ShotRefusal) (fault : Fault) (place : ℕ) → Answers bytes answer (Err fault) → length bytes - fault.left ≡ place → IsRefusedAt place answer
+answered_at : (bytes : List ℕ) (answer : Result Saved ShotRefusal) (fault : FieldFault) (place : ℕ) → Answers bytes answer (Err fault) → length bytes - fault.left ≡ place → IsRefusedAt place answer
 answered_at bytes (Ok saved) fault place is at = absurd cc
 answered_at bytes (Err refusals.NoMemory) fault place is at = is
 answered_at bytes (Err (refusals.BadShot n)) fault place is at = (let same : n ≡ length bytes - fault.left = cc in same ∙ at)
@@ -42,6 +42,6 @@ at_first bytes answer answers = record {
 }
 
 -- the refusal of a fault is at the first one
-pub refusal_at_first : (bytes : List ℕ) (fault : Fault) (refusal : ShotRefusal) → read_all saved_format bytes ≡ Err fault → refusal ≡ refusal_of bytes fault → IsAtFirstFault bytes (Err refusal)
+pub refusal_at_first : (bytes : List ℕ) (fault : FieldFault) (refusal : ShotRefusal) → read_all saved_format bytes ≡ Err fault → refusal ≡ refusal_of bytes fault → IsAtFirstFault bytes (Err refusal)
 refusal_at_first bytes fault refusal fails is =
     subst (λ (r : ShotRefusal). IsAtFirstFault bytes (Err r)) (sym is) (at_first bytes (Err (refusal_of bytes fault)) (rw fails refl))

@@ -12,9 +12,9 @@ use Rattle.p3l_base.specs.declared.outcome.TrapKind.TheVariants.{DivZero, DivOve
 use Rattle.p3l_format.specs.Format.{Format, after, as_form, coded, counted, nothing, pair, tagged, within}
 use Rattle.p3l_format.specs.Numbers.{i64_format, is_byte, is_i64, is_in, number, one_of, u8_format, u32_format, u32_in, u64_format}
 use Rattle.p3l_format.specs.laws.Parts.{both_true}
-use Rattle.p3l_net.specs.declared.shot.Own.{Own}
-use Rattle.p3l_net.specs.declared.shot.SavedToken.{SavedToken}
-use Rattle.p3l_net.specs.declared.shot.Shot.{Shot}
+use Rattle.p3l_firing.specs.declared.shot.Own.{Own}
+use Rattle.p3l_firing.specs.declared.shot.SavedToken.{SavedToken}
+use Rattle.p3l_firing.specs.declared.shot.Shot.{Shot}
 use Rattle.p3l_resume.specs.Ranges.{AreFew, AreInRange, HasFewItems, HasFewWords, HasRange, IsFew, IsInRange, IsShort, IsTag, IsWord, WhatHasFewItemsCanBeWritten}
 use Rattle.p3l_resume.specs.Saved.{body_format, bytes_format, magic, saved_format, version}
 use Rattle.p3l_resume.specs.Shot.{chans_format, own_format, owns_format, shot_format}

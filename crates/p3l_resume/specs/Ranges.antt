@@ -1,12 +1,12 @@
--- When a snapshot can be written: its numbers are numbers of their types, and its lists have few items.
+-- Conditions under which a snapshot can be written: its numbers are in the ranges of their types, and its lists have few items.
 use Rattle.std.specs.Prelude.{◌≡◌, ◌^◌, ◌<◌, ℕ, ℤ, true, List, length, IfSome}
 use Rattle.std.specs.List.{All}
 use Rattle.p3l_base.specs.declared.outcome.Outcome.{Outcome}
 use Rattle.p3l_base.specs.declared.outcome.Outcome.TheVariants.{Value, Trapped}
 use Rattle.p3l_format.specs.Numbers.{is_byte, is_i64}
-use Rattle.p3l_net.specs.declared.shot.Own.{Own}
-use Rattle.p3l_net.specs.declared.shot.SavedToken.{SavedToken}
-use Rattle.p3l_net.specs.declared.shot.Shot.{Shot}
+use Rattle.p3l_firing.specs.declared.shot.Own.{Own}
+use Rattle.p3l_firing.specs.declared.shot.SavedToken.{SavedToken}
+use Rattle.p3l_firing.specs.declared.shot.Shot.{Shot}
 use Rattle.p3l_resume.specs.declared.saved.Saved.{Saved}
 use Rattle.p3l_resume.specs.Saved.{CanBeWritten}
 

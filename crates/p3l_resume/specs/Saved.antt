@@ -16,7 +16,7 @@ version = 1
 abbrev pub bytes_format : Format ℕ (List ℕ)
 bytes_format = counted count_format (λ _. u8_format)
 
--- what stands after the magic number and the version: the state of a machine, and the bytes of an image
+-- the format after the magic number and the version: the state of a machine, and the bytes of an image
 unfoldable pub body_format : Format ℕ Saved
 body_format = record_of (λ p. record { shot = p.0; image = p.1 }) (λ s. (s.shot, s.image)) (both shot_format bytes_format)
 

@@ -2,9 +2,9 @@
 use Rattle.std.specs.Prelude.{ℕ, List}
 use Rattle.p3l_format.specs.Format.{Format, both, counted, record_of}
 use Rattle.p3l_format.specs.Numbers.{u64_format}
-use Rattle.p3l_net.specs.declared.shot.Own.{Own}
-use Rattle.p3l_net.specs.declared.shot.SavedToken.{SavedToken}
-use Rattle.p3l_net.specs.declared.shot.Shot.{Shot}
+use Rattle.p3l_firing.specs.declared.shot.Own.{Own}
+use Rattle.p3l_firing.specs.declared.shot.SavedToken.{SavedToken}
+use Rattle.p3l_firing.specs.declared.shot.Shot.{Shot}
 use Rattle.p3l_resume.specs.Token.{tokens_format}
 use Rattle.p3l_resume.specs.Words.{count_format, inbox_format}
 
@@ -19,7 +19,7 @@ owns_format = counted count_format (λ _. own_format)
 abbrev pub chans_format : Format ℕ (List (List SavedToken))
 chans_format = counted count_format (λ _. tokens_format)
 
--- how many items were sent and outcomes emitted, the inbox, what the processes keep, and the tokens of the channels
+-- the counts of items sent and outcomes emitted, the inbox, the own states of the processes, and the tokens of the channels
 unfoldable pub shot_format : Format ℕ Shot
 shot_format = record_of
     (λ p. record { sent = p.0; emitted = p.1.0; inbox = p.1.1.0; owns = p.1.1.1.0; chans = p.1.1.1.1 })

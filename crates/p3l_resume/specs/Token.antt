@@ -7,7 +7,7 @@ use Rattle.p3l_base.specs.declared.outcome.TrapKind.{TrapKind}
 use Rattle.p3l_base.specs.declared.outcome.TrapKind.TheVariants.{DivZero, DivOver, Index, Shift, Budget, Turns}
 use Rattle.p3l_format.specs.Format.{Format, as_form, both, counted, record_of, tagged}
 use Rattle.p3l_format.specs.Numbers.{one_of, u32_format, u64_format}
-use Rattle.p3l_net.specs.declared.shot.SavedToken.{SavedToken}
+use Rattle.p3l_firing.specs.declared.shot.SavedToken.{SavedToken}
 use Rattle.p3l_firing.specs.Token.{is_trap}
 use Rattle.p3l_resume.specs.Words.{count_format, flag_format, words_format}
 
@@ -46,7 +46,7 @@ unfoldable pub body_format : Bool → Format ℕ Outcome
 body_format false = as_form is_value (λ words. Value words) words_of words_format
 body_format true = as_form is_trap (λ trap. Trapped trap) trap_of trap_format
 
--- whether an outcome is a trap, and what it is
+-- the flag of an outcome, true for a trap, and then its body
 unfoldable pub outcome_format : Format ℕ Outcome
 outcome_format = tagged flag_format is_trap body_format
 

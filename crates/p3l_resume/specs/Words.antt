@@ -11,7 +11,7 @@ count_format = u32_in 0 4294967295
 abbrev pub words_format : Format ℕ (List ℤ)
 words_format = counted count_format (λ _. i64_format)
 
--- whether something is so: a byte, 0 or 1
+-- the flag of a Bool: a byte, 0 or 1
 abbrev pub flag_format : Format ℕ Bool
 flag_format = one_of flags flag_number
 

@@ -13,7 +13,7 @@ use crate::number::{ByteField, MOST_ITEMS};
 use crate::saved::{Saved, ShotRefusal};
 use crate::shot::ShotField;
 use p3l_base::{List, NoMemory};
-use p3l_format::{Fault, Field, ListField, ReadError, read_exact, write_u32};
+use p3l_format::{Field, FieldFault, ListField, ReadError, read_exact, write_u32};
 use std::alloc::Global;
 
 const MAGIC: u32 = 0x5033_4c53;
@@ -109,7 +109,7 @@ pub fn read_shot(alloc: Global, bytes: &[u8]) -> Result<Saved, ShotRefusal>
 }
 
 // The refusal of bytes with this first fault.
-fn refusal(bytes: &[u8], fault: Fault) -> ShotRefusal
+fn refusal(bytes: &[u8], fault: FieldFault) -> ShotRefusal
     ensures { result ≡ refusal_of bytes.now fault }
 {
     ShotRefusal::BadShot(bytes.len().saturating_sub(fault.left) as u64)

@@ -1,7 +1,7 @@
 // The numbers of snapshots are numbers of their types: seen by looking at them.
 
 ghost use Rattle.std.specs.List.{All};
-ghost use Rattle.p3l_net.specs.declared.shot.Own.{Own as TheOwn};
+ghost use Rattle.p3l_firing.specs.declared.shot.Own.{Own as TheOwn};
 ghost use Rattle.p3l_resume.specs.Ranges.{AreInRange, HasRanges, HasRange, IsInRange, IsTag, IsWord, WhatHasFewItemsCanBeWritten};
 ghost use Rattle.std.specs.Prelude.{◌≡◌, ◌<◌, ◌^◌, IfSome, true};
 ghost use Rattle.p3l_format.specs.Numbers.{is_byte};

@@ -1,4 +1,4 @@
--- What fits a typed net whose channels have little room has few items: tokens, tags and words.
+-- A shot that fits a typed net whose channels have little room has few items: tokens, tags and words.
 use Rattle.std.proofs.Common.{◌≡◌, ℕ, ℤ, ◌<◌, ◌≤◌, List, [], ◌∷◌, length, map, get_or, Some, None, Option, slice_get, ap, subst, arith}
 use Rattle.std.specs.Prelude.{IfSome}
 use Rattle.std.specs.List.{All, AllByRecursion}
@@ -16,13 +16,14 @@ use Rattle.p3l_firing.specs.declared.process.ProcKind.TheVariants as kinds
 use Rattle.p3l_firing.specs.State.{chan_at, fresh}
 use Rattle.p3l_firing.specs.Typed.{FitsKind, FitsOwn, IsTyped}
 use Rattle.p3l_firing.specs.Widths.{AllFit, HasWidth, Widths}
+use Rattle.p3l_firing.specs.Shot.{HasFewTags, own_of, own_saved_at, saved_at, token_of}
+use Rattle.p3l_firing.specs.declared.shot.Own.{Own as SavedOwn}
+use Rattle.p3l_firing.specs.declared.shot.SavedToken.{SavedToken}
+use Rattle.p3l_firing.specs.declared.shot.Shot.{Shot}
 use Rattle.p3l_net.specs.Channel.{Queue, tokens_at}
-use Rattle.p3l_net.specs.Fitting.{HoldsFew, own_saved_at}
+use Rattle.p3l_net.specs.Fitting.{HoldsFew}
 use Rattle.p3l_net.specs.Machine.{state_of}
-use Rattle.p3l_net.specs.Shot.{Fits, HasFewTags, HasRoom, IsHeld, own_of, queues_of, restored, saved_at, token_of}
-use Rattle.p3l_net.specs.declared.shot.Own.{Own as SavedOwn}
-use Rattle.p3l_net.specs.declared.shot.SavedToken.{SavedToken}
-use Rattle.p3l_net.specs.declared.shot.Shot.{Shot}
+use Rattle.p3l_net.specs.Shot.{Fits, HasRoom, IsHeld, queues_of, restored}
 use Rattle.p3l_net.proofs.Saving.{fits_held, queue-there}
 use Rattle.p3l_resume.specs.Ranges.{AreFew, HasFewItems, HasFewWords, IsFew, IsShort}
 use Rattle.p3l_resume_laws.proofs.FewTokens.{few_held, stands_there}

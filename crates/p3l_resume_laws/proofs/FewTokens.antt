@@ -1,4 +1,4 @@
--- How many tokens what fits a net has: those in its channels, as far as there is room, and those that its processes hold.
+-- The number of tokens of a shot that fits a net: those in its channels, as far as there is room, and those that its processes hold.
 use Rattle.std.proofs.Common.{◌≡◌, ℕ, zero, suc, ◌+◌, ◌*◌, ◌<◌, ◌≤◌, List, [], ◌∷◌, length, Some, Option, slice_get, refl, sym, ap, subst, arith}
 use Rattle.std.proofs.lemmas.List.{get_or-map, length-map}
 use Rattle.p3l_base.specs.declared.cut.Cut.{Cut}
@@ -16,15 +16,16 @@ use Rattle.p3l_firing.specs.declared.process.ProcKind.TheVariants as kinds
 use Rattle.p3l_firing.specs.declared.token.Token.{Token}
 use Rattle.p3l_firing.specs.Nodes.{cut_of, last_element}
 use Rattle.p3l_firing.specs.Process.{out_of}
-use Rattle.p3l_firing.specs.State.{Own, State, chan_at, fresh}
+use Rattle.p3l_firing.specs.State.{LocalState, State, chan_at, fresh}
 use Rattle.p3l_firing.specs.Typed.{FitsKind, FitsOwn, IsTyped}
 use Rattle.p3l_firing.specs.Widths.{Widths}
 use Rattle.p3l_firing.proofs.LawfulForms.{map_part}
-use Rattle.p3l_net.specs.Fitting.{HoldsFew, own_saved_at}
+use Rattle.p3l_firing.specs.Shot.{own_of, own_saved_at, token_of}
+use Rattle.p3l_firing.specs.declared.shot.Own.{Own as SavedOwn}
+use Rattle.p3l_firing.specs.declared.shot.Shot.{Shot}
+use Rattle.p3l_net.specs.Fitting.{HoldsFew}
 use Rattle.p3l_net.specs.Machine.{state_of}
-use Rattle.p3l_net.specs.Shot.{Fits, own_of, restored, token_of}
-use Rattle.p3l_net.specs.declared.shot.Own.{Own as SavedOwn}
-use Rattle.p3l_net.specs.declared.shot.Shot.{Shot}
+use Rattle.p3l_net.specs.Shot.{Fits, restored}
 use Rattle.p3l_template.specs.Part.{in_channels, in_hands}
 use Rattle.p3l_link.specs.Whole.{tokens_in}
 use Rattle.p3l_resume_laws.proofs.Elements.{elements_low}
@@ -116,7 +117,7 @@ module _ (tree : Tree) (net : Net) (typed : IsTyped tree net) (rooms : (c : ℕ)
         let saved : SavedOwn = own_saved_at shot p in
         let same : s.own p ≡ own_of saved = get_or-map own_of shot.owns p (record { number = 0; held = [] }) fresh there in
         let fit = subst (FitsOwn q.kind tree w q) same (fits.state.owns p q stands.1) in
-        subst (λ (o : Own). length o.held ≤ 65536) (sym same)
+        subst (λ (o : LocalState). length o.held ≤ 65536) (sym same)
         (few_held q saved q.kind (typed.processes p q stands.1) fit (holds p q stands.1))
 
     pub few_tokens_in : tokens_in net s ≤ 1024 * length net.chans + 65536 * length net.procs

@@ -16,7 +16,7 @@ use Rattle.p3l_firing.specs.Single.{the_source}
 use Rattle.p3l_firing.specs.Typed.{FitsKind, IsTyped}
 use Rattle.p3l_firing.specs.Widths.{Carries, Widths}
 use Rattle.p3l_template.specs.Kind.{Kind}
-use Rattle.p3l_template.specs.Shape.{Base, Seat, Shape, no_seat}
+use Rattle.p3l_template.specs.Shape.{Base, Slot, Blueprint, no_slot}
 use Rattle.p3l_template.specs.Width.{ins_width, outs_width}
 use Rattle.p3l_template.specs.declared.width.Width.{Width}
 use Rattle.p3l_reduce.specs.Reduce.{reduce_shape}
@@ -24,7 +24,7 @@ use Rattle.p3l_reduce.specs.ReduceKind.{reduce_widths}
 use Rattle.p3l_link.specs.Counts.{HasOwnCount, IsCounted}
 use Rattle.p3l_link.specs.Net.{Piece, base_at, inner_pieces, linked_net, piece_of, root_base, root_piece, whole_piece}
 use Rattle.p3l_link.specs.Shape.{kind_at, kind_row}
-use Rattle.p3l_link.proofs.Counted.{root_counted, seat_counted}
+use Rattle.p3l_link.proofs.Counted.{root_counted, slot_counted}
 use Rattle.p3l_link.proofs.Typing.{widths_counted}
 use Rattle.p3l_fitting.specs.Restoring.{AgreeOn}
 use Rattle.p3l_fitting.specs.Survey.{inner_survey, linked_survey, linked_widths, node_survey}
@@ -76,22 +76,22 @@ kind_forced tree count k lawful there own =
 
 -- NODES, WITH ALL THAT IS BELOW THEM
 
--- what node k places at a base forces this row, where tokens before it have t tags
+-- the piece of node k at a base forces this row, if tokens before it have t tags
 pub record IsForced (tree : Tree) (k : ℕ) (base : Base) (t : ℕ) (F : Piece) (row : List Width) : Type 0 where
   pub forces : (w : Widths) → FitAll tree w F.procs → Carries w base.input (node_at tree k).ins t →
       CarryRow w base.chan row × Carries w base.output (node_at tree k).outs t
 
--- the same of the inner parts of node k at these seats, whose channels are those from c on
-record AreForced (tree : Tree) (k : ℕ) (seats : List Seat) (c t : ℕ) (F : Piece) (row : List Width) : Type 0 where
-  pass : (w : Widths) → FitAll tree w F.procs → AllPass tree k w t seats
-  own : (w : Widths) → FitAll tree w F.procs → AllFed tree k w t seats → CarryRow w c row
+-- the same of the inner parts of node k at these slots, whose channels are those from c on
+record AreForced (tree : Tree) (k : ℕ) (slots : List Slot) (c t : ℕ) (F : Piece) (row : List Width) : Type 0 where
+  pass : (w : Widths) → FitAll tree w F.procs → AllPass tree k w t slots
+  own : (w : Widths) → FitAll tree w F.procs → AllFed tree k w t slots → CarryRow w c row
 
-inner_forced : (tree : Tree) (k t : ℕ) (f : ℕ → Base → Piece) (g : ℕ → Base → Survey) (seats : List Seat) (p c : ℕ) →
-    ((v : ℕ) → v < length seats → (b : Base) →
-    IsSized (f (get_or seats v no_seat).part b) (g (get_or seats v no_seat).part b)
-    × IsForced tree (part_at tree k (get_or seats v no_seat).part) b t (f (get_or seats v no_seat).part b)
-    (g (get_or seats v no_seat).part b).widths) →
-    AreForced tree k seats c t (inner_pieces f seats p c) (inner_survey g seats p c).widths
+inner_forced : (tree : Tree) (k t : ℕ) (f : ℕ → Base → Piece) (g : ℕ → Base → Survey) (slots : List Slot) (p c : ℕ) →
+    ((v : ℕ) → v < length slots → (b : Base) →
+    IsSized (f (get_or slots v no_slot).part b) (g (get_or slots v no_slot).part b)
+    × IsForced tree (part_at tree k (get_or slots v no_slot).part) b t (f (get_or slots v no_slot).part b)
+    (g (get_or slots v no_slot).part b).widths) →
+    AreForced tree k slots c t (inner_pieces f slots p c) (inner_survey g slots p c).widths
 unfolding inner_pieces inner_survey
 inner_forced tree k t f g [] p c each = record {
   pass = λ w fits v low. absurd (omega (arith, low));
@@ -123,15 +123,15 @@ inner_forced tree k t f g (x ∷ xs) p c each =
     }
 
 -- a kind that forces its row, round inner parts that force theirs
-whole_forced : (tree : Tree) (k t more cap : ℕ) (shape : Shape) (f : ℕ → Base → Piece) (base : Base) (own inner : List Width) →
+whole_forced : (tree : Tree) (k t more cap : ℕ) (shape : Blueprint) (f : ℕ → Base → Piece) (base : Base) (own inner : List Width) →
     length own ≡ shape.chans base →
-    ((w : Widths) → FitAll tree w (shape.procs base) → AllPass tree k w (t + more) (shape.seats base) →
-    Carries w base.input (node_at tree k).ins t → Flows tree k w base t more (shape.seats base) own) →
-    AreForced tree k (shape.seats base) (base.chan + shape.chans base) (t + more)
-    (inner_pieces f (shape.seats base) (base.proc + length (shape.procs base)) (base.chan + shape.chans base)) inner →
+    ((w : Widths) → FitAll tree w (shape.procs base) → AllPass tree k w (t + more) (shape.slots base) →
+    Carries w base.input (node_at tree k).ins t → Flows tree k w base t more (shape.slots base) own) →
+    AreForced tree k (shape.slots base) (base.chan + shape.chans base) (t + more)
+    (inner_pieces f (shape.slots base) (base.proc + length (shape.procs base)) (base.chan + shape.chans base)) inner →
     IsForced tree k base t (whole_piece shape cap f base) (own ++ inner)
 whole_forced tree k t more cap shape f base own inner long flows rest =
-    let G : Piece = inner_pieces f (shape.seats base) (base.proc + length (shape.procs base)) (base.chan + shape.chans base) in
+    let G : Piece = inner_pieces f (shape.slots base) (base.proc + length (shape.procs base)) (base.chan + shape.chans base) in
     record {
       forces = λ w fits input.
           let both = all_split (λ (z : Proc). FitsKind z.kind tree w z) (shape.procs base) G.procs fits in
@@ -152,19 +152,19 @@ piece_forced tree count cap lawful (suc d) k t base h =
     let more : ℕ = t + kind.deeper in
     let f : ℕ → Base → Piece = λ v. piece_of tree count cap d (part_at tree k v) in
     let g : ℕ → Base → Survey = λ v. node_survey tree count d (part_at tree k v) more in
-    let seats : List Seat = kind.shape.seats base in
+    let slots : List Slot = kind.shape.slots base in
     let p : ℕ = base.proc + length (kind.shape.procs base) in
     let long : length own ≡ kind.shape.chans base = widths_counted tree count k lawful h.0 h.1 t base in
-    let below : (v : ℕ) → v < length seats → IsCounted tree count d (part_at tree k (get_or seats v no_seat).part) =
-    (λ v low. seat_counted tree count k lawful h.0 base v low d h) in
-    let inner = inner_forced tree k more f g seats p (base.chan + kind.shape.chans base) (λ v low b. (
+    let below : (v : ℕ) → v < length slots → IsCounted tree count d (part_at tree k (get_or slots v no_slot).part) =
+    (λ v low. slot_counted tree count k lawful h.0 base v low d h) in
+    let inner = inner_forced tree k more f g slots p (base.chan + kind.shape.chans base) (λ v low b. (
       node_sized tree count cap lawful d _ more b (below v low),
       piece_forced tree count cap lawful d _ more b (below v low),
     )) in
     whole_forced tree k t kind.deeper cap kind.shape f base own _ long
     (λ w fits pass input. kind_forced tree count k lawful h.0 h.1 w base t fits pass input)
-    (subst (λ n. AreForced tree k seats (base.chan + kind.shape.chans base) more (inner_pieces f seats p (base.chan + kind.shape.chans base))
-    (inner_survey g seats p (base.chan + n)).widths) (sym long) inner)
+    (subst (λ n. AreForced tree k slots (base.chan + kind.shape.chans base) more (inner_pieces f slots p (base.chan + kind.shape.chans base))
+    (inner_survey g slots p (base.chan + n)).widths) (sym long) inner)
 
 -- THE WHOLE NET
 

@@ -1,6 +1,6 @@
--- What the processes of a template force: where they fit between channels, each inner part hands on what it is given, and the in channel
--- carries the in words of the node, the template's own channels carry the row that is surveyed, and its out channel the out words, with as
--- many tags as the in channel. For each template but that of a reduce.
+-- Widths that the processes of a template force: if they fit between channels, each inner part hands on the widths it is given. The in
+-- channel carries the in words of the node, the template's own channels the row that is surveyed, and its out channel the out words, with
+-- as many tags as the in channel. This is for each template except that of a reduce.
 use Rattle.std.proofs.Common.{◌≡◌, ℕ, zero, suc, ◌+◌, ◌-◌, ◌<◌, ◌≤◌, List, [], ◌∷◌, length, get_or, map, replicate, take, refl, sym, ◌∙◌, subst, arith}
 use Rattle.std.specs.List.{AllByRecursion}
 use Rattle.std.proofs.lemmas.List.{length-replicate}
@@ -10,9 +10,9 @@ use Rattle.p3l_skel.specs.Tree.{node_at, part_at}
 use Rattle.p3l_firing.specs.declared.process.Proc.{Proc}
 use Rattle.p3l_firing.specs.Typed.{FitsKind}
 use Rattle.p3l_firing.specs.Widths.{AllCarry, Carries, Widths}
-use Rattle.p3l_template.specs.Pipe.{pipe_shape, stage_seats}
+use Rattle.p3l_template.specs.Pipe.{pipe_shape, stage_slots}
 use Rattle.p3l_template.specs.Run.{run_shape}
-use Rattle.p3l_template.specs.Shape.{Base, Seat, Shape, fan_seats, no_seat, numbers_from}
+use Rattle.p3l_template.specs.Shape.{Base, Slot, Blueprint, fan_slots, no_slot, numbers_from}
 use Rattle.p3l_template.specs.Width.{ins_width, no_width, outs_width, stage_widths, worker_widths}
 use Rattle.p3l_template.specs.declared.width.Width.{Width}
 use Rattle.p3l_template.specs.laws.Fan.{fan_at, fan_length}
@@ -27,32 +27,32 @@ use Rattle.p3l_resume_laws.proofs.Rows.{CarryRow, number_at, row_append, row_sam
 abbrev pub FitAll : Tree → Widths → List Proc → Type 0
 FitAll tree w procs = AllByRecursion (λ (q : Proc). FitsKind q.kind tree w q) procs
 
--- the in channel of a seat in node k carries the in words of the part there, with t tags; and its out channel the out words
-abbrev pub IsFed : Tree → (k : ℕ) → Widths → (t : ℕ) → Seat → Type 0
-IsFed tree k w t seat = Carries w seat.input (node_at tree (part_at tree k seat.part)).ins t
+-- the in channel of a slot in node k carries the in words of the part there, with t tags; and its out channel the out words
+abbrev pub IsFed : Tree → (k : ℕ) → Widths → (t : ℕ) → Slot → Type 0
+IsFed tree k w t slot = Carries w slot.input (node_at tree (part_at tree k slot.part)).ins t
 
-abbrev pub IsPassed : Tree → (k : ℕ) → Widths → (t : ℕ) → Seat → Type 0
-IsPassed tree k w t seat = Carries w seat.output (node_at tree (part_at tree k seat.part)).outs t
+abbrev pub IsPassed : Tree → (k : ℕ) → Widths → (t : ℕ) → Slot → Type 0
+IsPassed tree k w t slot = Carries w slot.output (node_at tree (part_at tree k slot.part)).outs t
 
-abbrev pub AllFed : Tree → (k : ℕ) → Widths → (t : ℕ) → List Seat → Type 0
-AllFed tree k w t seats = (v : ℕ) → v < length seats → IsFed tree k w t (get_or seats v no_seat)
+abbrev pub AllFed : Tree → (k : ℕ) → Widths → (t : ℕ) → List Slot → Type 0
+AllFed tree k w t slots = (v : ℕ) → v < length slots → IsFed tree k w t (get_or slots v no_slot)
 
--- each seat hands on what it is given
-abbrev pub AllPass : Tree → (k : ℕ) → Widths → (t : ℕ) → List Seat → Type 0
-AllPass tree k w t seats =
-    (v : ℕ) → v < length seats → IsFed tree k w t (get_or seats v no_seat) → IsPassed tree k w t (get_or seats v no_seat)
+-- each slot hands on what it is given
+abbrev pub AllPass : Tree → (k : ℕ) → Widths → (t : ℕ) → List Slot → Type 0
+AllPass tree k w t slots =
+    (v : ℕ) → v < length slots → IsFed tree k w t (get_or slots v no_slot) → IsPassed tree k w t (get_or slots v no_slot)
 
--- the channels of a template carry this row, and its out channel the out words of its node; its seats are given tokens with `more` tags
-pub record Flows (tree : Tree) (k : ℕ) (w : Widths) (base : Base) (t more : ℕ) (seats : List Seat) (row : List Width) : Type 0 where
+-- the channels of a template carry this row, and its out channel the out words of its node; its slots are given tokens with `more` tags
+pub record Flows (tree : Tree) (k : ℕ) (w : Widths) (base : Base) (t more : ℕ) (slots : List Slot) (row : List Width) : Type 0 where
   pub own : CarryRow w base.chan row
   pub output : Carries w base.output (node_at tree k).outs t
-  pub fed : AllFed tree k w (t + more) seats
+  pub fed : AllFed tree k w (t + more) slots
 
 -- a template forces the row for a number of tags
-abbrev pub Forces : Tree → (k : ℕ) → Shape → (more : ℕ) → (ℕ → List Width) → Type 0
+abbrev pub Forces : Tree → (k : ℕ) → Blueprint → (more : ℕ) → (ℕ → List Width) → Type 0
 Forces tree k shape more row =
-    (w : Widths) (base : Base) (t : ℕ) → FitAll tree w (shape.procs base) → AllPass tree k w (t + more) (shape.seats base) →
-    Carries w base.input (node_at tree k).ins t → Flows tree k w base t more (shape.seats base) (row t)
+    (w : Widths) (base : Base) (t : ℕ) → FitAll tree w (shape.procs base) → AllPass tree k w (t + more) (shape.slots base) →
+    Carries w base.input (node_at tree k).ins t → Flows tree k w base t more (shape.slots base) (row t)
 
 -- RUN
 
@@ -74,20 +74,20 @@ none_less : (w : Widths) (c n t : ℕ) → Carries w c n (t + 0) → Carries w c
 none_less w c n t h = let tags = h.tags in record { words = h.words; tags = omega (arith, tags) }
 
 module _ (tree : Tree) (w : Widths) (t : ℕ) where
-  -- stages that are these nodes, at these seats, over the channels from c on, to channel y
-  record FlowsOn (seats : List Seat) (c y o : ℕ) (ps : List ℕ) (row : List Width) : Type 0 where
+  -- stages that are these nodes, at these slots, over the channels from c on, to channel y
+  record FlowsOn (slots : List Slot) (c y o : ℕ) (ps : List ℕ) (row : List Width) : Type 0 where
     own : CarryRow w c row
     output : Carries w y o t
-    fed : (v : ℕ) → v < length ps → Carries w (get_or seats v no_seat).input (node_at tree (get_or ps v 0)).ins t
+    fed : (v : ℕ) → v < length ps → Carries w (get_or slots v no_slot).input (node_at tree (get_or ps v 0)).ins t
 
-  abbrev PassOn : List Seat → List ℕ → Type 0
-  PassOn seats ps =
-      (v : ℕ) → v < length ps → Carries w (get_or seats v no_seat).input (node_at tree (get_or ps v 0)).ins t →
-      Carries w (get_or seats v no_seat).output (node_at tree (get_or ps v 0)).outs t
+  abbrev PassOn : List Slot → List ℕ → Type 0
+  PassOn slots ps =
+      (v : ℕ) → v < length ps → Carries w (get_or slots v no_slot).input (node_at tree (get_or ps v 0)).ins t →
+      Carries w (get_or slots v no_slot).output (node_at tree (get_or ps v 0)).outs t
 
   stages_flow : (u x c y k i o : ℕ) (ps : List ℕ) → length ps ≡ suc k → IsChain tree i o ps → Carries w x i t →
-      PassOn (stage_seats u x c y k) ps → FlowsOn (stage_seats u x c y k) c y o ps (map (λ p. outs_width tree p t) (take k ps))
-  unfolding stage_seats
+      PassOn (stage_slots u x c y k) ps → FlowsOn (stage_slots u x c y k) c y o ps (map (λ p. outs_width tree p t) (take k ps))
+  unfolding stage_slots
   stages_flow u x c y k i o [] e chain input pass = absurd (omega (arith, e))
   stages_flow u x c y zero i o (p ∷ []) e chain input pass =
       let first : Carries w x (node_at tree p).ins t = subst (λ z. Carries w x z t) (sym chain.1) input in
@@ -115,25 +115,25 @@ module _ (tree : Tree) (k : ℕ) (some : 1 ≤ length (node_at tree k).parts)
   parts = (node_at tree k).parts
 
   module _ (w : Widths) (base : Base) (t : ℕ) where
-    abbrev seats : List Seat
-    seats = stage_seats 0 base.input base.chan base.output (length (node_at tree k).parts - 1)
+    abbrev slots : List Slot
+    slots = stage_slots 0 base.input base.chan base.output (length (node_at tree k).parts - 1)
 
-    many : length seats ≡ length parts
+    many : length slots ≡ length parts
     many = omega (arith, some, stages_length 0 base.input base.chan base.output (length parts - 1))
 
-    part_is : (v : ℕ) → v < length parts → (get_or seats v no_seat).part ≡ v
+    part_is : (v : ℕ) → v < length parts → (get_or slots v no_slot).part ≡ v
     part_is v low =
         stage_part 0 base.input base.chan base.output (length parts - 1) v (omega (arith, low, some)) ∙ omega arith
 
-    pipe_flow : AllPass tree k w (t + 0) seats → Carries w base.input (node_at tree k).ins t →
-        Flows tree k w base t 0 seats (stage_widths tree t parts)
+    pipe_flow : AllPass tree k w (t + 0) slots → Carries w base.input (node_at tree k).ins t →
+        Flows tree k w base t 0 slots (stage_widths tree t parts)
     pipe_flow pass input =
-        let on : PassOn tree w t seats parts = (λ v low fed.
+        let on : PassOn tree w t slots parts = (λ v low fed.
         let e = part_is v low in
         none_less w _ _ t
-        (subst (λ z. Carries w (get_or seats v no_seat).output (node_at tree (part_at tree k z)).outs (t + 0)) e
+        (subst (λ z. Carries w (get_or slots v no_slot).output (node_at tree (part_at tree k z)).outs (t + 0)) e
         (pass v (omega (arith, low, many))
-        (subst (λ z. Carries w (get_or seats v no_seat).input (node_at tree (part_at tree k z)).ins (t + 0)) (sym e)
+        (subst (λ z. Carries w (get_or slots v no_slot).input (node_at tree (part_at tree k z)).ins (t + 0)) (sym e)
         (none_more w _ _ t fed))))) in
         let flow = stages_flow tree w t 0 base.input base.chan base.output (length parts - 1) (node_at tree k).ins (node_at tree k).outs
         parts (omega (arith, some)) chain input on in
@@ -142,7 +142,7 @@ module _ (tree : Tree) (k : ℕ) (some : 1 ≤ length (node_at tree k).parts)
           output = flow.output;
           fed = λ v low.
               let below : v < length parts = omega (arith, low, many) in
-              subst (λ z. Carries w (get_or seats v no_seat).input (node_at tree (part_at tree k z)).ins (t + 0)) (sym (part_is v below))
+              subst (λ z. Carries w (get_or slots v no_slot).input (node_at tree (part_at tree k z)).ins (t + 0)) (sym (part_is v below))
               (none_more w _ _ t (flow.fed v below));
         }
 
@@ -157,11 +157,11 @@ pipe_forces tree k some chain w base t fits pass input = pipe_flow tree k some c
 module _ (tree : Tree) (k n : ℕ) (w : Widths) (base : Base) (t more x y u : ℕ) (deep : u ≡ t + more) (some : 1 ≤ n)
     (takes : (node_at tree (part_at tree k 0)).ins ≡ x) (gives : (node_at tree (part_at tree k 0)).outs ≡ y)
     (to_workers : AllCarry w (numbers_from base.chan n) x u)
-    (pass : AllPass tree k w (t + more) (fan_seats base.chan (base.chan + n) n)) where
-  abbrev workers : List Seat
-  workers = fan_seats base.chan (base.chan + n) n
+    (pass : AllPass tree k w (t + more) (fan_slots base.chan (base.chan + n) n)) where
+  abbrev workers : List Slot
+  workers = fan_slots base.chan (base.chan + n) n
 
-  worker_fed : (v : ℕ) → v < n → IsFed tree k w (t + more) (get_or workers v no_seat)
+  worker_fed : (v : ℕ) → v < n → IsFed tree k w (t + more) (get_or workers v no_slot)
   worker_fed v low =
       let at = number_at (λ c. Carries w c x u) n base.chan v to_workers low in
       subst (IsFed tree k w (t + more)) (sym (fan_at base.chan (base.chan + n) n v low))

@@ -1,4 +1,4 @@
--- What is saved of a machine that runs a linked net is sound.
+-- The saved state of a machine that runs a linked net is sound.
 use Rattle.std.proofs.Common.{sym, subst}
 use Rattle.p3l_firing.specs.State.{first_state}
 use Rattle.p3l_firing.specs.Typed.{IsTyped}

@@ -1,9 +1,9 @@
--- What every state of a run of a linked net keeps.
+-- Carry of every state of a run of a linked net.
 use Rattle.std.proofs.Common.{◌≡◌, ℕ, ℤ, true, List, [], ◌∷◌, Some, slice_get, refl, sym, subst, inl, inr}
 use Rattle.std.proofs.lemmas.Bool.{cases_Bool, cond-true, cond-false}
 use Rattle.p3l_firing.specs.declared.net.Net.{Net}
 use Rattle.p3l_firing.specs.declared.process.Proc.{Proc}
-use Rattle.p3l_firing.specs.Carried.{HaveInWords}
+use Rattle.p3l_firing.specs.NetInvariants.{HaveInWords}
 use Rattle.p3l_firing.specs.Fire.{can_fire, fire}
 use Rattle.p3l_firing.specs.Run.{Course, after_picks, course_from, picked}
 use Rattle.p3l_firing.specs.State.{State, first_state}

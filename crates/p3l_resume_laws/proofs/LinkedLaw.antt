@@ -9,7 +9,7 @@ use Rattle.p3l_skel.specs.Numbers.{firings}
 use Rattle.p3l_skel.specs.Tree.{node_at, HasLength}
 use Rattle.p3l_firing.specs.declared.net.Net.{Net}
 use Rattle.p3l_firing.specs.declared.token.Token.{Token}
-use Rattle.p3l_firing.specs.Carried.{Carry, HaveInWords, IsCarried}
+use Rattle.p3l_firing.specs.NetInvariants.{Invariants, HaveInWords, HasInvariants}
 use Rattle.p3l_firing.specs.Fire.{can_fire, fire}
 use Rattle.p3l_firing.specs.Outcomes.{up_to_first_trap}
 use Rattle.p3l_firing.specs.Run.{Course, after_picks, course_from, picked, run_from}
@@ -23,12 +23,12 @@ use Rattle.p3l_template.specs.Units.{Units, outcome_at}
 use Rattle.p3l_link.specs.Laws.{IsLinkable, IsOrderly, net_of}
 use Rattle.p3l_link.specs.Net.{linked_net}
 use Rattle.p3l_link.specs.Part.{root_part}
-use Rattle.p3l_link.specs.Whole.{root_carry}
-use Rattle.p3l_link.proofs.Carried.{root_means, root_sound}
-use Rattle.p3l_link.proofs.LinkedLaws.{fired, fired_fitting, first_fitting, net_carried, owed_bounded, run_bounded, run_begun}
+use Rattle.p3l_link.specs.Whole.{root_invariants}
+use Rattle.p3l_link.proofs.NetInvariants.{root_means, root_sound}
+use Rattle.p3l_link.proofs.LinkedLaws.{fired, fired_fitting, first_fitting, net_has_invariants, owed_bounded, run_bounded, run_begun}
 use Rattle.p3l_link.proofs.Round.{long_all}
 use Rattle.p3l_resume_laws.specs.Linked.{BothPartsAreBounded, CanResume, EveryRestCanResume, EveryResumedRunEmitsWhatIsLeft, EveryResumedRunEnds, EveryRunCanResume, EveryRunStaysBalanced, EveryStartCanResume, EveryStartIsBalanced, IsBalanced, ResumedFiringsAreBounded, ahead_of, left_in}
-use Rattle.p3l_firing.specs.Orderly as carried
+use Rattle.p3l_firing.specs.Orderly as balance
 use Rattle.p3l_firing.proofs.CutLaw.{unbroken}
 use Rattle.p3l_firing.proofs.EmitsLaw.{emits}
 use Rattle.p3l_firing.proofs.OrderlyLaw.{few_firings, kept_balanced, kept_run}
@@ -57,8 +57,8 @@ pub items_append : (n : ℕ) (xs ys : List (List ℤ)) → AllByRecursion (λ (w
 items_append n [] ys all more = more
 items_append n (x ∷ xs) ys all more = (all.0, items_append n xs ys all.1 more)
 
-pub carry_orderly : (units : Units) (counts : List ℕ) (s : State) → IsOrderly units counts s → (root_carry units counts).orderly s ≡ true
-carry_orderly units counts s o = ap₂ (λ a b. a && b) o.root (long_all (node_at units.tree 0).ins s.unsent o.items)
+pub invariants_orderly : (units : Units) (counts : List ℕ) (s : State) → IsOrderly units counts s → (root_invariants units counts).orderly s ≡ true
+invariants_orderly units counts s o = ap₂ (λ a b. a && b) o.root (long_all (node_at units.tree 0).ins s.unsent o.items)
 
 module _ (units : Units) (counts : List ℕ) (cap : ℕ) (l : IsLinkable units counts cap) where
   abbrev net : Net
@@ -67,14 +67,14 @@ module _ (units : Units) (counts : List ℕ) (cap : ℕ) (l : IsLinkable units c
   abbrev P : Part
   P = root_part units counts
 
-  abbrev carry : Carry
-  carry = root_carry units counts
+  abbrev invariants : Invariants
+  invariants = root_invariants units counts
 
   abbrev ins : ℕ
   ins = (node_at units.tree 0).ins
 
-  abbrev laws : IsCarried units.tree units.leaf net (firings units.tree counts) carry
-  laws = net_carried units counts cap l
+  abbrev laws : HasInvariants units.tree units.leaf net (firings units.tree counts) invariants
+  laws = net_has_invariants units counts cap l
 
   -- the tokens after the root, in it and before it
   line_is : (s : State) → line P s ≡ s.tokens 1 ++ (P.pending s ++ map (over P.meaning) (s.tokens 0))
@@ -83,7 +83,7 @@ module _ (units : Units) (counts : List ℕ) (cap : ℕ) (l : IsLinkable units c
       let root = root_sound units counts cap l.lawful l.fit l.room in
       ap₂ (λ o i. s.tokens o ++ (P.pending s ++ map (over P.meaning) (s.tokens i))) root.output root.input
 
-  length-to_come : (s : State) → length (carry.to_come s) ≡ length (s.tokens 1) + (length (P.pending s) + length (s.tokens 0))
+  length-to_come : (s : State) → length (invariants.to_come s) ≡ length (s.tokens 1) + (length (P.pending s) + length (s.tokens 0))
   length-to_come s =
       let all = length-bodies (line P s) in
       let parts : length (line P s) ≡ length (s.tokens 1 ++ (P.pending s ++ map (over P.meaning) (s.tokens 0))) = ap length (line_is s) in
@@ -92,14 +92,14 @@ module _ (units : Units) (counts : List ℕ) (cap : ℕ) (l : IsLinkable units c
       let waiting = length-map (s.tokens 0) (over P.meaning) in
       omega (arith, all, parts, later, inner, waiting)
 
-  to_balanced : (s : State) → carried.IsBalanced carry s → IsBalanced units counts s
+  to_balanced : (s : State) → balance.IsBalanced invariants s → IsBalanced units counts s
   to_balanced s balanced = let long = length-to_come s in omega (arith, balanced, long)
 
-  from_balanced : (s : State) → IsBalanced units counts s → carried.IsBalanced carry s
+  from_balanced : (s : State) → IsBalanced units counts s → balance.IsBalanced invariants s
   from_balanced s balanced = let long = length-to_come s in omega (arith, balanced, long)
 
   to_come_is : (s : State) → HaveWords ins (s.tokens 0) →
-      carry.to_come s ≡ bodies (s.tokens 1) ++ (bodies (P.pending s) ++ map (outcome_at units 0) (bodies (s.tokens 0)))
+      invariants.to_come s ≡ bodies (s.tokens 1) ++ (bodies (P.pending s) ++ map (outcome_at units 0) (bodies (s.tokens 0)))
   to_come_is s waiting =
       let means = root_means units counts cap l.lawful l.fit l.room l.gives in
       ap bodies (line_is s)
@@ -109,7 +109,7 @@ module _ (units : Units) (counts : List ℕ) (cap : ℕ) (l : IsLinkable units c
       ∙ ap (λ z. bodies (P.pending s) ++ z) (bodies-over P.meaning (outcome_at units 0) ins means.same (s.tokens 0) waiting))
 
   pub ahead_is : (s : State) → HaveWords ins (s.tokens 0) →
-      carry.to_come s ++ map (item units.tree units.leaf 0) s.unsent ≡ ahead_of units counts s
+      invariants.to_come s ++ map (item units.tree units.leaf 0) s.unsent ≡ ahead_of units counts s
   ahead_is s waiting =
       let after : List Outcome = bodies (s.tokens 1) in
       let pending : List Outcome = bodies (P.pending s) in
@@ -119,7 +119,7 @@ module _ (units : Units) (counts : List ℕ) (cap : ℕ) (l : IsLinkable units c
       ∙ append_assoc after (pending ++ before) items
       ∙ ap (λ z. after ++ z) (append_assoc pending before items)
 
-  left_is : (s : State) → HaveWords ins (s.tokens 0) → carried.left_from units.tree units.leaf carry s ≡ left_in units counts s
+  left_is : (s : State) → HaveWords ins (s.tokens 0) → balance.left_from units.tree units.leaf invariants s ≡ left_in units counts s
   left_is s waiting = ap up_to_first_trap (ahead_is s waiting)
 
   module _ (typed : IsTyped units.tree net) where
@@ -133,7 +133,7 @@ module _ (units : Units) (counts : List ℕ) (cap : ℕ) (l : IsLinkable units c
     have_words [] all = tt
     have_words (x ∷ xs) all = (subst (λ n. HasLength n x.body) words_waiting all.0.words, have_words xs all.1)
 
-    -- what every run keeps, whether a trap was emitted or not
+    -- the invariant of every run, whether a trap was emitted or not
     record IsInPlace (s : State) : Type 0 where
       orderly : IsOrderly units counts s
       fitting : IsFitting units.tree net typed.widths s
@@ -185,16 +185,16 @@ start_resumes units counts cap typed items l long = record {
   untrapped = refl;
 }
 
--- where nothing was sent or emitted, and nothing is to come
-balanced_at_first : (c : Carry) (s : State) → s.sent ≡ 0 → s.emitted ≡ [] → c.to_come s ≡ [] → carried.IsBalanced c s
+-- a net is balanced if nothing was sent or emitted, and nothing is to come
+balanced_at_first : (c : Invariants) (s : State) → s.sent ≡ 0 → s.emitted ≡ [] → c.to_come s ≡ [] → balance.IsBalanced c s
 balanced_at_first c s sent emitted to_come = sent ∙ sym (ap₂ (λ es os. length es + length os) emitted to_come)
 
 pub start_balanced : EveryStartIsBalanced
 unfolding first_state
 start_balanced units counts cap items l long =
-    let begins = (net_carried units counts cap l).begins items long in
+    let begins = (net_has_invariants units counts cap l).begins items long in
     to_balanced units counts cap l (first_state (net_of units counts cap) items)
-    (balanced_at_first (root_carry units counts) (first_state (net_of units counts cap) items) refl refl begins.to_come)
+    (balanced_at_first (root_invariants units counts) (first_state (net_of units counts cap) items) refl refl begins.to_come)
 
 pub every_run_resumes : EveryRunCanResume
 every_run_resumes units counts cap typed s picks l r untrapped = run_resumes units counts cap l typed s picks r untrapped
@@ -204,32 +204,32 @@ every_rest_resumes units counts cap typed s rest l r long = rest_resumes units c
 
 pub run_balanced : EveryRunStaysBalanced
 run_balanced units counts cap s picks l orderly balanced =
-    let k = kept_run units.tree units.leaf (net_of units counts cap) _ (root_carry units counts) (net_carried units counts cap l) s
-    (carry_orderly units counts s orderly) picks in
+    let k = kept_run units.tree units.leaf (net_of units counts cap) _ (root_invariants units counts) (net_has_invariants units counts cap l) s
+    (invariants_orderly units counts s orderly) picks in
     to_balanced units counts cap l _
-    (kept_balanced units.tree units.leaf (net_of units counts cap) _ (root_carry units counts) (net_carried units counts cap l) s _ k
+    (kept_balanced units.tree units.leaf (net_of units counts cap) _ (root_invariants units counts) (net_has_invariants units counts cap l) s _ k
     (from_balanced units counts cap l s balanced))
 
 pub resumed_emits : EveryResumedRunEmitsWhatIsLeft
 resumed_emits units counts cap typed s picks l r =
-    subst (λ left. carried.Emits units.tree (net_of units counts cap) left s (run_from units.tree units.leaf (net_of units counts cap) s picks).state)
+    subst (λ left. balance.Emits units.tree (net_of units counts cap) left s (run_from units.tree units.leaf (net_of units counts cap) s picks).state)
     (left_is units counts cap l s (have_words units counts cap l typed (s.tokens 0) (r.fitting.tokens 0)))
-    (emits units.tree units.leaf (net_of units counts cap) _ (root_carry units counts) (net_carried units counts cap l) s picks
-    (carry_orderly units counts s r.orderly) r.untrapped)
+    (emits units.tree units.leaf (net_of units counts cap) _ (root_invariants units counts) (net_has_invariants units counts cap l) s picks
+    (invariants_orderly units counts s r.orderly) r.untrapped)
 
 pub resumed_bounded : ResumedFiringsAreBounded
 resumed_bounded units counts cap s picks l orderly =
-    let k = kept_run units.tree units.leaf (net_of units counts cap) _ (root_carry units counts) (net_carried units counts cap l) s
-    (carry_orderly units counts s orderly) picks in
-    let few = few_firings units.tree units.leaf (net_of units counts cap) _ (root_carry units counts) (net_carried units counts cap l) s _ k in
+    let k = kept_run units.tree units.leaf (net_of units counts cap) _ (root_invariants units counts) (net_has_invariants units counts cap l) s
+    (invariants_orderly units counts s orderly) picks in
+    let few = few_firings units.tree units.leaf (net_of units counts cap) _ (root_invariants units counts) (net_has_invariants units counts cap l) s _ k in
     let owed = owed_bounded units counts cap s l orderly in
     omega (arith, few, owed)
 
 pub resumed_ends : EveryResumedRunEnds
 resumed_ends units counts cap s way most l orderly made enough =
     let owed = owed_bounded units counts cap s l orderly in
-    made_stuck units.tree units.leaf (net_of units counts cap) (firings units.tree counts) (root_carry units counts)
-    (net_carried units counts cap l) s (carry_orderly units counts s orderly) way made most (omega (arith, owed, enough))
+    made_stuck units.tree units.leaf (net_of units counts cap) (firings units.tree counts) (root_invariants units counts)
+    (net_has_invariants units counts cap l) s (invariants_orderly units counts s orderly) way made most (omega (arith, owed, enough))
 
 pub both_bounded : BothPartsAreBounded
 both_bounded units counts cap u w a b l long filled =

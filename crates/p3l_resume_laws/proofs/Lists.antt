@@ -1,4 +1,4 @@
--- What holds of all elements of a list.
+-- Properties of all elements of a list.
 use Rattle.std.proofs.Common.{ℕ, zero, suc, List, [], ◌∷◌, ◌++◌, map, replicate, take, drop}
 use Rattle.std.specs.List.{AllByRecursion}
 
@@ -25,7 +25,7 @@ module _ {A : Type 0} (P : A → Type 0) where
   all_map f each [] = tt
   all_map f each (x ∷ xs) = (each x, all_map f each xs)
 
-  -- what follows of each element holds of all
+  -- a property that follows for each element holds of all
   pub all_so : (Q : A → Type 0) → ((x : A) → P x → Q x) → (xs : List A) → AllByRecursion P xs → AllByRecursion Q xs
   all_so Q each [] all = tt
   all_so Q each (x ∷ xs) all = (each x all.0, all_so Q each xs all.1)

@@ -11,7 +11,7 @@ use Rattle.p3l_firing.specs.declared.process.Proc.{Proc}
 use Rattle.p3l_firing.specs.declared.process.ProcKind.TheVariants as kinds
 use Rattle.p3l_firing.specs.Process.{Has, all_ins, all_outs, in_of, out_of, times}
 use Rattle.p3l_firing.specs.State.{State, chan_at}
-use Rattle.p3l_firing.specs.Token.{peeled}
+use Rattle.p3l_firing.specs.Token.{untagged}
 use Rattle.p3l_firing.specs.Typed.{IsTyped}
 use Rattle.p3l_firing.specs.Widths.{Carries, Widths}
 use Rattle.p3l_firing.specs.kinds.Head as head
@@ -19,7 +19,7 @@ use Rattle.p3l_firing.specs.kinds.Tail as tail
 use Rattle.p3l_firing.proofs.Places.{all-has, has-nth, has_counted, part_counted}
 use Rattle.p3l_template.specs.Part.{Part, no_part}
 use Rattle.p3l_template.specs.Placed.{AreLaid, AreStanding, IsGoodBase}
-use Rattle.p3l_template.specs.Shape.{Base, Role, Shape, no_seat, numbers_from}
+use Rattle.p3l_template.specs.Shape.{Base, Role, Blueprint, no_slot, numbers_from}
 use Rattle.p3l_template.specs.Units.{Units}
 use Rattle.p3l_template.specs.Width.{width_at}
 use Rattle.p3l_template.specs.declared.width.Width.{Width}
@@ -31,7 +31,7 @@ use Rattle.p3l_link.specs.Counts.{IsCounted}
 use Rattle.p3l_link.specs.Net.{Piece, inner_pieces, piece_of, whole_piece}
 use Rattle.p3l_link.specs.Part.{inner_parts, part_of, role_of, whole_part}
 use Rattle.p3l_link.specs.Shape.{kind_at, kind_row, shape_at, shape_row}
-use Rattle.p3l_link.proofs.Counted.{counted_there, seat_counted}
+use Rattle.p3l_link.proofs.Counted.{counted_there, slot_counted}
 use Rattle.p3l_net.specs.Fitting.{LoopPlace, most_tokens}
 use Rattle.p3l_net.proofs.Sides.{one_has}
 use Rattle.p3l_fitting.specs.Survey.{loop_place, node_survey}
@@ -145,15 +145,15 @@ module _ (net : Net) (units : Units) (count : ℕ → ℕ) (cap : ℕ) (typed : 
 
   module _ (d k t : ℕ) (base : Base) (at : IsAt (suc d) k t base) (turns tokens : ℕ)
       (is : (node_at units.tree k).form ≡ Loop turns tokens) where
-    abbrev shape : Shape
+    abbrev shape : Blueprint
     shape = loop_shape k tokens
 
     abbrev f : ℕ → Base → Piece
     f v = piece_of units.tree count cap d (part_at units.tree k v)
 
-    -- what is inside it, and it with all of this
+    -- the piece inside it, and its whole piece
     abbrev inner : Piece
-    inner = inner_pieces f (shape.seats base) (base.proc + 2) (base.chan + 4)
+    inner = inner_pieces f (shape.slots base) (base.proc + 2) (base.chan + 4)
 
     abbrev whole : Piece
     whole = whole_piece shape cap f base
@@ -177,22 +177,22 @@ module _ (net : Net) (units : Units) (count : ℕ → ℕ) (cap : ℕ) (typed : 
 
     whole_is : piece_of units.tree count cap (suc d) k base ≡ whole
     unfolding piece_of
-    whole_is = ap (λ (z : Shape). whole_piece z cap f base) shape_is
+    whole_is = ap (λ (z : Blueprint). whole_piece z cap f base) shape_is
 
     there : k < length units.tree.nodes
     there = counted_there units.tree count (suc d) k at.counted
 
-    each_counted : (v : ℕ) → v < length (shape.seats base) →
-        IsCounted units.tree count d (part_at units.tree k (get_or (shape.seats base) v no_seat).part)
+    each_counted : (v : ℕ) → v < length (shape.slots base) →
+        IsCounted units.tree count d (part_at units.tree k (get_or (shape.slots base) v no_slot).part)
     each_counted v low =
-        subst (λ (z : Shape). IsCounted units.tree count d (part_at units.tree k (get_or (z.seats base) v no_seat).part)) shape_is
-        (seat_counted units.tree count k typed.lawful there base v (subst (λ (z : Shape). v < length (z.seats base)) (sym shape_is) low) d at.counted)
+        subst (λ (z : Blueprint). IsCounted units.tree count d (part_at units.tree k (get_or (z.slots base) v no_slot).part)) shape_is
+        (slot_counted units.tree count k typed.lawful there base v (subst (λ (z : Blueprint). v < length (z.slots base)) (sym shape_is) low) d at.counted)
 
     once : HasOnce base whole
     once = subst (HasOnce base) whole_is (piece_once units.tree count cap typed.lawful (suc d) k base at.counted)
 
-    inner_has : HaveOnce (shape.seats base) (base.chan + 4) inner
-    inner_has = inner_once f (shape.seats base) (base.proc + 2) (base.chan + 4) (λ v low b. piece_once units.tree count cap typed.lawful d _ b (each_counted v low))
+    inner_has : HaveOnce (shape.slots base) (base.chan + 4) inner
+    inner_has = inner_once f (shape.slots base) (base.proc + 2) (base.chan + 4) (λ v low b. piece_once units.tree count cap typed.lawful d _ b (each_counted v low))
 
     stands : AreStanding net base.proc whole.procs
     stands = subst (λ (z : Piece). AreStanding net base.proc z.procs) whole_is at.procs
@@ -231,7 +231,7 @@ module _ (net : Net) (units : Units) (count : ℕ → ℕ) (cap : ℕ) (typed : 
     one_is : (x c : ℕ) → 1 ≤ times c (x ∷ []) → x ≡ c
     one_is x c some = elim (counted_has (x ∷ []) c some) [ inl e ↦ e | inr none ↦ elim none [ ] ]
 
-    -- what a process of the body reads and writes
+    -- a process of the body reads and writes channels within the loop
     among : (x c : ℕ) → IsWithin place x → 1 ≤ times c (x ∷ []) + times c (numbers_from (base.chan + 4) (length inner.chans)) →
         IsWithin place c
     among x c within some =
@@ -360,7 +360,7 @@ module _ (net : Net) (units : Units) (count : ℕ → ℕ) (cap : ℕ) (typed : 
               ];
         }
 
-    -- where its part is orderly
+    -- the roles and the parts inside it; the loop is kept if its part is orderly
     abbrev roles : ℕ → Role
     roles v = role_of units count d (part_at units.tree k v)
 
@@ -369,10 +369,10 @@ module _ (net : Net) (units : Units) (count : ℕ → ℕ) (cap : ℕ) (typed : 
 
     part_is : part_of units count (suc d) k base ≡ whole_part shape units roles part base
     unfolding part_of
-    part_is = ap (λ (z : Shape). whole_part z units roles part base) shape_is
+    part_is = ap (λ (z : Blueprint). whole_part z units roles part base) shape_is
 
     abbrev Q : Part
-    Q = get_or (inner_parts part (shape.seats base) (base.proc + 2) (base.chan + 4)) 0 no_part
+    Q = get_or (inner_parts part (shape.slots base) (base.proc + 2) (base.chan + 4)) 0 no_part
 
     kept_at : (s : State) → Above s → IsLoopKept place h tokens s
     unfolding bag
@@ -383,8 +383,8 @@ module _ (net : Net) (units : Units) (count : ℕ → ℕ) (cap : ℕ) (typed : 
         let kept : Kept l tokens v = kept_to l tokens v (and_parts (Q.orderly s) (well_kept l tokens v) orderly).1 in
         let counted : v.least + length (bag l v) ≡ v.next = kept.count in
         let credits : v.credits + length (bag l v) ≡ tokens = kept.credits in
-        let held = length-append (map peeled v.held) (map (settled l) v.ring) in
-        let same = length-map v.held peeled in
+        let held = length-append (map untagged v.held) (map (settled l) v.ring) in
+        let same = length-map v.held untagged in
         record {
           ordered = omega (arith, counted);
           credits = omega (arith, counted, credits);

@@ -1,4 +1,4 @@
--- What is said of each token by its place, the channel that it is in or the process that holds it, is kept by every firing of a process
+-- Properties of each token by its place, the channel that it is in or the process that holds it, are kept by every firing of a process
 -- that hands it on.
 use Rattle.std.proofs.Common.{◌≡◌, ◌∙◌, ℕ, zero, suc, ℤ, replicate, slice_get, ◌<◌, cond, nat_lt, ◌&&◌, ◌||◌, Bool, true, false, List, [], ◌∷◌, ◌++◌, length, Option, Some, None, refl, sym, subst, inl, inr, arith}
 use Rattle.std.specs.List.{AllByRecursion}
@@ -17,8 +17,8 @@ use Rattle.p3l_firing.specs.Fire.{can_fire, fire, row_can, row_fire}
 use Rattle.p3l_firing.specs.Lists.{has_first, first_or, rest_of}
 use Rattle.p3l_firing.specs.Nodes.{Leaf, element_of, fold_of, joined_of, operator_of, outcome_of, segment_of, spent_of, test_of, turns_of}
 use Rattle.p3l_firing.specs.Process.{Has, in_of, out_of}
-use Rattle.p3l_firing.specs.State.{Own, State, at_first, chan_at, counted, first_state, fresh, front, gathering, has_room, holding, pop, push, set_own}
-use Rattle.p3l_firing.specs.Token.{admitted, bodies, credit, newest_tag, once_more, over, peeled, plain, tagged}
+use Rattle.p3l_firing.specs.State.{LocalState, State, at_first, chan_at, counted, first_state, fresh, front, gathering, has_room, holding, pop, push, set_own}
+use Rattle.p3l_firing.specs.Token.{admitted, bodies, credit, newest_tag, once_more, over, untagged, plain, tagged}
 use Rattle.p3l_firing.specs.Typed.{FitsKind, IsFitting, IsTyped}
 use Rattle.p3l_firing.specs.Widths.{FitsToken, Widths}
 use Rattle.p3l_firing.specs.kinds.Source as source
@@ -69,14 +69,14 @@ module _ {C H : ℕ → Token → Type 0} (s : State) (all : AllAre C H s) where
   unfolding pop
   are_taken c = record { sent = are_there c (rest_of (s.tokens c)) (all_rest (C c) (s.tokens c) (all.sent c)); held = all.held }
 
-  pub are_kept : (p : ℕ) (o : Own) → AllByRecursion (H p) o.held → AllAre C H (set_own s p o)
+  pub are_kept : (p : ℕ) (o : LocalState) → AllByRecursion (H p) o.held → AllAre C H (set_own s p o)
   unfolding set_own
   are_kept p o h = record {
     sent = all.sent;
     held = λ r.
         elim (cases_eq r p) [
-          | inl e ↦ subst (λ k. AllByRecursion (H k) (at s.own p o k).held) (sym e) (subst (λ (x : Own). AllByRecursion (H p) x.held) (sym (at-same s.own p o)) h)
-          | inr e ↦ subst (λ (x : Own). AllByRecursion (H r) x.held) (sym (at-other s.own p o r e)) (all.held r)
+          | inl e ↦ subst (λ k. AllByRecursion (H k) (at s.own p o k).held) (sym e) (subst (λ (x : LocalState). AllByRecursion (H p) x.held) (sym (at-same s.own p o)) h)
+          | inr e ↦ subst (λ (x : LocalState). AllByRecursion (H r) x.held) (sym (at-other s.own p o r e)) (all.held r)
         ];
   }
 
@@ -84,7 +84,7 @@ module _ {C H : ℕ → Token → Type 0} (s : State) (all : AllAre C H s) where
   is_front c full = all_first (C c) credit (s.tokens c) full (all.sent c)
 
 module _ (C H : ℕ → Token → Type 0) (tree : Tree) (leaf : Leaf) (widths : Widths) (p : ℕ) (q : Proc) where
-  -- what becomes of a token that comes out of the body of a loop
+  -- the turn of a token that comes out of the body of a loop
   abbrev turn : Token → Turn
   turn x = turn_of (test_of tree leaf q.node) (spent_of tree q.node) (nat_lt (newest_tag x) (turns_of tree q.node)) x.body
 
@@ -105,7 +105,7 @@ module _ (C H : ℕ → Token → Type 0) (tree : Tree) (leaf : Leaf) (widths : 
   pub record Turns : Type 0 where
     pub holds : (x : Token) (outcome : Outcome) → C (in_of q 0) x → turn x ≡ Held outcome → H p (record x { body = outcome })
     pub again : (x : Token) → FitsToken widths (in_of q 0) x → C (in_of q 0) x → turn x ≡ Again → C (out_of q 1) (once_more x)
-    pub leaves : (x : Token) → H p x → C (out_of q 0) (peeled (peeled x))
+    pub leaves : (x : Token) → H p x → C (out_of q 0) (untagged (untagged x))
     pub credits : C (out_of q 2) credit
 
   -- a process of each kind hands on what is said
@@ -114,7 +114,7 @@ module _ (C H : ℕ → Token → Type 0) (tree : Tree) (leaf : Leaf) (widths : 
   HandsOn kinds.Sink = Unit {0}
   HandsOn kinds.Run = (x : Token) → C (in_of q 0) x → C (out_of q 0) (over (outcome_of tree leaf q.node) x)
   HandsOn kinds.Emit = (c n : ℕ) (x : Token) → Has q.outs c → FitsToken widths (in_of q 0) x → C (in_of q 0) x → C c (tagged n x)
-  HandsOn kinds.Collect = (c : ℕ) (x : Token) → Has q.ins c → C c x → C (out_of q 0) (peeled x)
+  HandsOn kinds.Collect = (c : ℕ) (x : Token) → Has q.ins c → C c x → C (out_of q 0) (untagged x)
   HandsOn kinds.Scatter = Cuts (element_of tree q.node)
   HandsOn kinds.Gather = Joins (joined_of tree q.node)
   HandsOn kinds.Split = Cuts (segment_of tree q.node (length q.outs))
@@ -123,7 +123,7 @@ module _ (C H : ℕ → Token → Type 0) (tree : Tree) (leaf : Leaf) (widths : 
   HandsOn kinds.Head = Enters
   HandsOn kinds.Tail = Turns
 
-  module _ {net : Net} (s : State) (o : Own) (fit : IsFitting tree net widths s) (all : AllAre C H s) where
+  module _ {net : Net} (s : State) (o : LocalState) (fit : IsFitting tree net widths s) (all : AllAre C H s) where
     -- the first token of a channel
     abbrev x : ℕ → Token
     x c = front s c
@@ -166,8 +166,8 @@ module _ (C H : ℕ → Token → Type 0) (tree : Tree) (leaf : Leaf) (widths : 
         AllAre C H (collect.taken_from (Some c) s p o q)
     unfolding collect.taken_from
     taken_from c due held hands =
-        are_kept (push (pop s c) (out_of q 0) (peeled (x c)))
-        (are_put (pop s c) (are_taken s all c) (out_of q 0) (peeled (x c))
+        are_kept (push (pop s c) (out_of q 0) (untagged (x c)))
+        (are_put (pop s c) (are_taken s all c) (out_of q 0) (untagged (x c))
         (hands c (x c) (due_among s o.number q.ins c due) (is_front s all c (due_full s o.number q.ins c due))))
         p (counted o) held
 
@@ -231,7 +231,7 @@ module _ (C H : ℕ → Token → Type 0) (tree : Tree) (leaf : Leaf) (widths : 
     join_taken whole hands c there full held =
         are_kept (pop s c) (are_taken s all c) p (gathering o (x c)) (all_push (H p) o.held (x c) held (hands.takes c (x c) there (is_front s all c full)))
 
-    join_sent : (whole : List Outcome → Outcome) → Joins whole → (released : Own) → released.held ≡ [] → has_first o.held ≡ true →
+    join_sent : (whole : List Outcome → Outcome) → Joins whole → (released : LocalState) → released.held ≡ [] → has_first o.held ≡ true →
         AllByRecursion (H p) o.held
         → AllAre C H (set_own (push s (out_of q 0) (record { tags = (first_or credit o.held).tags; body = whole (bodies o.held) })) p released)
     join_sent whole hands released none full held =
@@ -311,9 +311,9 @@ module _ (C H : ℕ → Token → Type 0) (tree : Tree) (leaf : Leaf) (widths : 
     released hands can held =
         let both = and_parts _ _ can in
         let y : Token = tail.pick_number o.number o.held in
-        let t : State = push s (out_of q 0) (peeled (peeled y)) in
+        let t : State = push s (out_of q 0) (untagged (untagged y)) in
         are_kept (push t (out_of q 2) credit)
-        (are_put t (are_put s all (out_of q 0) (peeled (peeled y)) (hands.leaves y (picked_all (H p) o.number o.held both.0 held))) (out_of q 2) credit hands.credits)
+        (are_put t (are_put s all (out_of q 0) (untagged (untagged y)) (hands.leaves y (picked_all (H p) o.number o.held both.0 held))) (out_of q 2) credit hands.credits)
         p (tail.after_release o) (dropped_all (H p) o.number o.held held)
 
     turned : Turns → (next : Turn) → turn (x (in_of q 0)) ≡ next → has_first (s.tokens (in_of q 0)) ≡ true → AllByRecursion (H p) o.held

@@ -11,7 +11,7 @@ use Rattle.p3l_firing.specs.declared.token.Token.{Token}
 use Rattle.p3l_firing.specs.Fire.{fire, fire_of, row_fire}
 use Rattle.p3l_firing.specs.Lists.{has_first}
 use Rattle.p3l_firing.specs.Nodes.{Leaf}
-use Rattle.p3l_firing.specs.State.{Own, State, counted, fresh, pop, push, set_own}
+use Rattle.p3l_firing.specs.State.{LocalState, State, counted, fresh, pop, push, set_own}
 use Rattle.p3l_firing.specs.kinds.Source as source
 use Rattle.p3l_firing.specs.kinds.Sink as sink
 use Rattle.p3l_firing.specs.kinds.Run as run
@@ -26,7 +26,7 @@ use Rattle.p3l_firing.specs.kinds.Head as head
 use Rattle.p3l_firing.specs.kinds.Tail as tail
 
 -- a process that sends a token in pieces holds one at most
-abbrev pub HoldsOne : ProcKind → Own → Type 0
+abbrev pub HoldsOne : ProcKind → LocalState → Type 0
 HoldsOne kinds.Scatter o = length o.held ≤ 1
 HoldsOne kinds.Split o = length o.held ≤ 1
 HoldsOne _ o = Unit {0}
@@ -36,17 +36,17 @@ pub record ChangesOne (s n : State) (p : ℕ) : Type 0 where
   pub others : (r : ℕ) → r ≢ p → n.own r ≡ s.own r
 
 same : (s n : State) (p : ℕ) → n.own ≡ s.own → ChangesOne s n p
-same s n p e = record { others = λ r apart. ap (λ (own : ℕ → Own). own r) e }
+same s n p e = record { others = λ r apart. ap (λ (own : ℕ → LocalState). own r) e }
 
-written : (s n : State) (p : ℕ) (o : Own) → n.own ≡ s.own → ChangesOne s (set_own n p o) p
+written : (s n : State) (p : ℕ) (o : LocalState) → n.own ≡ s.own → ChangesOne s (set_own n p o) p
 unfolding set_own
-written s n p o e = record { others = λ r apart. at-other n.own p o r apart ∙ ap (λ (own : ℕ → Own). own r) e }
+written s n p o e = record { others = λ r apart. at-other n.own p o r apart ∙ ap (λ (own : ℕ → LocalState). own r) e }
 
 either : (b : Bool) (s n m : State) (p : ℕ) → ChangesOne s n p → ChangesOne s m p → ChangesOne s (cond b n m) p
 either true s n m p h k = h
 either false s n m p h k = k
 
-module _ (s : State) (p : ℕ) (o : Own) (q : Proc) where
+module _ (s : State) (p : ℕ) (o : LocalState) (q : Proc) where
   sent_to : (chosen : Option ℕ) → ChangesOne s (emit.sent_to chosen s p o q) p
   unfolding emit.sent_to push pop
   sent_to None = same s s p refl
@@ -90,10 +90,10 @@ module _ (s : State) (p : ℕ) (o : Own) (q : Proc) where
     row_changes kinds.Head = either _ s _ _ p sent_round let_in
     row_changes kinds.Tail = either _ s _ _ p released (turned _ _)
 
-    -- what it keeps then
-    one_kept : (n : State) (x : Own) → length x.held ≤ 1 → length ((set_own n p x).own p).held ≤ 1
+    -- its new own state holds at most one token
+    one_kept : (n : State) (x : LocalState) → length x.held ≤ 1 → length ((set_own n p x).own p).held ≤ 1
     unfolding set_own
-    one_kept n x few = subst (λ (y : Own). length y.held ≤ 1) (sym (at-same n.own p x)) few
+    one_kept n x few = subst (λ (y : LocalState). length y.held ≤ 1) (sym (at-same n.own p x)) few
 
     one_of : (b : Bool) (n m : State) → length (n.own p).held ≤ 1 → length (m.own p).held ≤ 1 → length ((cond b n m).own p).held ≤ 1
     one_of true n m h k = h
@@ -124,7 +124,7 @@ module _ (tree : Tree) (leaf : Leaf) (net : Net) (s : State) (p : ℕ) where
   changes_of None = same s s p refl
   changes_of (Some q) = row_changes s p (s.own p) q tree leaf net q.kind
 
-  -- what the others keep stays
+  -- the own states of the others stay
   pub other_own : (r : ℕ) → r ≢ p → (fire tree leaf net s p).own r ≡ s.own r
   unfolding fire
   other_own r apart = (changes_of (slice_get net.procs p)).others r apart

@@ -19,7 +19,7 @@ use Rattle.p3l_firing.specs.Widths.{Widths}
 use Rattle.p3l_template.specs.Part.{Part, all_orderly}
 use Rattle.p3l_template.specs.Placed.{AreLaid, AreStanding, IsGoodBase, IsLawfulShape}
 use Rattle.p3l_template.specs.Kind.{Kind}
-use Rattle.p3l_template.specs.Shape.{Base, Role, Seat, Shape, no_seat}
+use Rattle.p3l_template.specs.Shape.{Base, Role, Slot, Blueprint, no_slot}
 use Rattle.p3l_template.specs.Units.{Units}
 use Rattle.p3l_template.specs.Width.{width_at}
 use Rattle.p3l_template.specs.declared.width.Width.{Width}
@@ -31,7 +31,7 @@ use Rattle.p3l_link.specs.Laws.{IsPartAt}
 use Rattle.p3l_link.specs.Net.{Piece, base_at, inner_pieces, piece_of, whole_piece}
 use Rattle.p3l_link.specs.Part.{inner_parts, part_of, role_of, whole_part}
 use Rattle.p3l_link.specs.Shape.{kind_at, kind_row, shape_at, shape_row}
-use Rattle.p3l_link.proofs.Counted.{counted_own, counted_there, seat_counted, shape_lawful}
+use Rattle.p3l_link.proofs.Counted.{counted_own, counted_there, slot_counted, shape_lawful}
 use Rattle.p3l_link.proofs.Sound.{sound}
 use Rattle.p3l_link.proofs.Typing.{widths_counted}
 use Rattle.p3l_net.specs.Fitting.{LoopPlace}
@@ -62,7 +62,7 @@ row_split w c (x ∷ xs) ys all =
     let e : suc c + length xs ≡ c + suc (length xs) = omega arith in
     ((all.0, rest.0), subst (λ z. CarryRow w z ys) e rest.1)
 
--- what holds of processes from number p on, by their numbers
+-- a property of the processes from number p on, by their numbers
 abbrev pub AllFrom : (P : ℕ → Proc → Type 0) → ℕ → List Proc → Type 0
 AllFrom P p [] = Unit {0}
 AllFrom P p (q ∷ qs) = P p q × AllFrom P (suc p) qs
@@ -104,16 +104,16 @@ reduce_none k len (suc d) base =
           (folds_none k m base.output base.chan (base.chan + m) 0 (segment_lengths (suc d) len)),
     )
 
--- where a template's part is orderly, so are its inner parts
+-- the inner parts of a template are orderly if its part is
 reduce_orderly : (part : ℕ → Base → Part) (k len level : ℕ) (base : Base) (p c : ℕ) (s : State) →
-    all_orderly (inner_parts part ((reduce_shape k len level).seats base) p c) s ≡ true
+    all_orderly (inner_parts part ((reduce_shape k len level).slots base) p c) s ≡ true
 unfolding reduce_shape inner_parts all_orderly
 reduce_orderly part k len zero base p c s = refl
 reduce_orderly part k len (suc d) base p c s = refl
 
 row_orderly : (units : Units) (roles : ℕ → Role) (part : ℕ → Base → Part) (k n : ℕ) (parts : List ℕ) (base : Base) (s : State)
     (form : Form) → (whole_part (shape_row form k (length parts) n) units roles part base).orderly s ≡ true →
-    all_orderly (inner_parts part ((shape_row form k (length parts) n).seats base) (base.proc + length ((shape_row form k (length parts) n).procs base)) (base.chan + (shape_row form k (length parts) n).chans base)) s ≡ true
+    all_orderly (inner_parts part ((shape_row form k (length parts) n).slots base) (base.proc + length ((shape_row form k (length parts) n).procs base)) (base.chan + (shape_row form k (length parts) n).chans base)) s ≡ true
 unfolding kind_row inner_parts all_orderly
 row_orderly units roles part k n parts base s Seq h = refl
 row_orderly units roles part k n parts base s Comp h = refl
@@ -151,13 +151,13 @@ module _ (net : Net) (units : Units) (count : ℕ → ℕ) (cap : ℕ) (pos : 0 
     pub loops : Loops places
     pub tails : Tails p procs
 
-  -- what is surveyed has as many channels, and as many processes, as are placed
+  -- a survey has as many channels, and as many processes, as are placed
   piece_size : (d k t : ℕ) (base : Base) → IsCounted units.tree count d k →
       IsSized (piece d k base) (node_survey units.tree count d k t base)
   piece_size d k t base h = node_sized units.tree count cap typed.lawful d k t base h
 
-  -- a seat between channels below `low`, of which the second has room for a token
-  record IsUsable (low : ℕ) (x : Seat) : Type 0 where
+  -- a slot between channels below `low`, of which the second has room for a token
+  record IsUsable (low : ℕ) (x : Slot) : Type 0 where
     input : x.input < low
     output : x.output < low
     apart : x.input ≢ x.output
@@ -174,9 +174,9 @@ module _ (net : Net) (units : Units) (count : ℕ → ℕ) (cap : ℕ) (pos : 0 
     abbrev g : ℕ → Base → Survey
     g v b = node_survey units.tree count d (part_at units.tree k v) t b
 
-    record AreAt (xs : List Seat) (p c : ℕ) : Type 0 where
-      counted : (v : ℕ) → v < length xs → IsCounted units.tree count d (part_at units.tree k (get_or xs v no_seat).part)
-      usable : (v : ℕ) → v < length xs → IsUsable low (get_or xs v no_seat)
+    record AreAt (xs : List Slot) (p c : ℕ) : Type 0 where
+      counted : (v : ℕ) → v < length xs → IsCounted units.tree count d (part_at units.tree k (get_or xs v no_slot).part)
+      usable : (v : ℕ) → v < length xs → IsUsable low (get_or xs v no_slot)
       after : low ≤ c
       procs : AreStanding net p (inner_pieces f xs p c).procs
       chans : AreLaid net c (inner_pieces f xs p c).chans
@@ -184,7 +184,7 @@ module _ (net : Net) (units : Units) (count : ℕ → ℕ) (cap : ℕ) (pos : 0 
       row : CarryRow w c (inner_survey g xs p c).widths
       orderly : (s : State) → Above s → all_orderly (inner_parts parts xs p c) s ≡ true
 
-    inner_places : (xs : List Seat) (p c : ℕ) → AreAt xs p c →
+    inner_places : (xs : List Slot) (p c : ℕ) → AreAt xs p c →
         HasPlaces (inner_survey g xs p c).loops p (inner_pieces f xs p c).procs
     unfolding inner_pieces inner_survey inner_parts all_orderly
     inner_places [] p c at = record { loops = tt; tails = tt }
@@ -243,7 +243,7 @@ module _ (net : Net) (units : Units) (count : ℕ → ℕ) (cap : ℕ) (pos : 0 
   unfolding kind_at kind_row
   loop_is k turns tokens is = ap (λ f. kind_row f k (length (node_at units.tree k).parts) (count k)) is
 
-  -- what is surveyed of node k, if it is of this kind
+  -- the surveyed widths of node k, if it is of this kind
   abbrev rows_of : Kind → (d k t : ℕ) → Base → List Width
   rows_of kind d k t base =
       kind.widths units.tree k t
@@ -321,8 +321,8 @@ module _ (net : Net) (units : Units) (count : ℕ → ℕ) (cap : ℕ) (pos : 0 
           ),
         )
 
-    -- what is placed by the node itself, and what is inside it
-    abbrev shape : Shape
+    -- the shape and the widths of the node itself, and the pieces inside it
+    abbrev shape : Blueprint
     shape = shape_at units.tree count k
 
     abbrev own : List Width
@@ -332,12 +332,12 @@ module _ (net : Net) (units : Units) (count : ℕ → ℕ) (cap : ℕ) (pos : 0 
     inside_of v = piece d (part_at units.tree k v)
 
     abbrev inner : Piece
-    inner = inner_pieces inside_of (shape.seats base) (base.proc + length (shape.procs base)) (base.chan + shape.chans base)
+    inner = inner_pieces inside_of (shape.slots base) (base.proc + length (shape.procs base)) (base.chan + shape.chans base)
 
-    -- what is surveyed inside it, from a channel on
+    -- the survey inside it, from a channel on
     abbrev inner_at : (l : ℕ) → Survey
     inner_at l =
-        inner_survey (λ v. node_survey units.tree count d (part_at units.tree k v) (t + kind.deeper)) (shape.seats base)
+        inner_survey (λ v. node_survey units.tree count d (part_at units.tree k v) (t + kind.deeper)) (shape.slots base)
         (base.proc + length (shape.procs base)) (base.chan + l)
 
     there : k < length units.tree.nodes
@@ -346,9 +346,9 @@ module _ (net : Net) (units : Units) (count : ℕ → ℕ) (cap : ℕ) (pos : 0 
     law : IsLawfulShape shape
     law = shape_lawful units.tree count k typed.lawful there (counted_own units.tree count (suc d) k at.counted)
 
-    each_counted : (v : ℕ) → v < length (shape.seats base) →
-        IsCounted units.tree count d (part_at units.tree k (get_or (shape.seats base) v no_seat).part)
-    each_counted v low = seat_counted units.tree count k typed.lawful there base v low d at.counted
+    each_counted : (v : ℕ) → v < length (shape.slots base) →
+        IsCounted units.tree count d (part_at units.tree k (get_or (shape.slots base) v no_slot).part)
+    each_counted v low = slot_counted units.tree count k typed.lawful there base v low d at.counted
 
     chans_are : length own ≡ shape.chans base
     chans_are = widths_counted units.tree count k typed.lawful there (counted_own units.tree count (suc d) k at.counted) t base
@@ -370,26 +370,26 @@ module _ (net : Net) (units : Units) (count : ℕ → ℕ) (cap : ℕ) (pos : 0 
     many = let laid_long = law.laid cap base in omega (arith, length-append (shape.laid cap base) inner.chans, laid_long)
 
     inner_orderly : (s : State) → Above s →
-        all_orderly (inner_parts (λ v. part d (part_at units.tree k v)) (shape.seats base) (base.proc + length (shape.procs base)) (base.chan + shape.chans base)) s ≡ true
+        all_orderly (inner_parts (λ v. part d (part_at units.tree k v)) (shape.slots base) (base.proc + length (shape.procs base)) (base.chan + shape.chans base)) s ≡ true
     unfolding part_of kind_at
     inner_orderly s above =
         row_orderly units (λ v. role_of units count d (part_at units.tree k v)) (λ v. part d (part_at units.tree k v)) k n ps base s form (at.orderly s above)
 
-    seat_usable : (v : ℕ) → v < length (shape.seats base) → IsUsable (base.chan + shape.chans base) (get_or (shape.seats base) v no_seat)
-    seat_usable v low =
-        let seats = law.count base in
-        let seat = law.seats net base at.good v (omega (arith, low, seats)) in
-        let output = seat.output in
+    slot_usable : (v : ℕ) → v < length (shape.slots base) → IsUsable (base.chan + shape.chans base) (get_or (shape.slots base) v no_slot)
+    slot_usable v low =
+        let slots = law.count base in
+        let slot = law.slots net base at.good v (omega (arith, low, slots)) in
+        let output = slot.output in
         let inside = ends in
         let all = many in
         record {
-          input = seat.input;
-          output = seat.output;
-          apart = seat.apart;
-          room = (typed.channels (get_or (shape.seats base) v no_seat).output (omega (arith, output, inside, all))).room;
+          input = slot.input;
+          output = slot.output;
+          apart = slot.apart;
+          room = (typed.channels (get_or (shape.slots base) v no_slot).output (omega (arith, output, inside, all))).room;
         }
 
-    -- what is surveyed of the node, in its parts
+    -- the node's row is its own widths, then those inside it
     rows_split : CarryRow w base.chan own × CarryRow w (base.chan + length own) (inner_at (length own)).widths
     unfolding node_survey
     rows_split = row_split w base.chan own (inner_at (length own)).widths at.row
@@ -407,7 +407,7 @@ module _ (net : Net) (units : Units) (count : ℕ → ℕ) (cap : ℕ) (pos : 0 
     tails_own = own_tails form refl
 
     module _ (each : (j u : ℕ) (b : Base) → At d j u b → HasPlaces (node_survey units.tree count d j u b).loops b.proc (piece d j b).procs) where
-      inner_is : AreAt d k (t + kind.deeper) (λ j b. each j (t + kind.deeper) b) (base.chan + shape.chans base) (shape.seats base)
+      inner_is : AreAt d k (t + kind.deeper) (λ j b. each j (t + kind.deeper) b) (base.chan + shape.chans base) (shape.slots base)
           (base.proc + length (shape.procs base)) (base.chan + shape.chans base)
       inner_is =
           let ss = stands_split net base.proc (shape.procs base) inner.procs stands in
@@ -416,7 +416,7 @@ module _ (net : Net) (units : Units) (count : ℕ → ℕ) (cap : ℕ) (pos : 0 
           let all = many in
           record {
             counted = each_counted;
-            usable = seat_usable;
+            usable = slot_usable;
             after = omega arith;
             procs = ss.1;
             chans = subst (λ z. AreLaid net (base.chan + z) inner.chans) (law.laid cap base) oo.1;
@@ -429,7 +429,7 @@ module _ (net : Net) (units : Units) (count : ℕ → ℕ) (cap : ℕ) (pos : 0 
       unfolding node_survey
       node_places =
           let within : Survey = inner_at (length own) in
-          let has = inner_places d k (t + kind.deeper) (λ j b. each j (t + kind.deeper) b) (base.chan + shape.chans base) (shape.seats base)
+          let has = inner_places d k (t + kind.deeper) (λ j b. each j (t + kind.deeper) b) (base.chan + shape.chans base) (shape.slots base)
           (base.proc + length (shape.procs base)) (base.chan + shape.chans base) inner_is in
           let procs = procs_split in
           let chans = chans_split in

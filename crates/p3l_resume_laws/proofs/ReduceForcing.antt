@@ -1,5 +1,5 @@
--- What the processes of a reduce force: the channels of the segments carry their elements by Split, those of the joins the out words by
--- the processes that write them, and all as many tags as the in channel, from the segments up to the last join.
+-- Widths that the processes of a reduce force: the channels of the segments carry their elements by Split, those of the joins the out words
+-- by the processes that write them, and all as many tags as the in channel, from the segments up to the last join.
 use Rattle.std.proofs.Common.{◌≡◌, ℕ, zero, suc, ◌+◌, ◌-◌, ◌*◌, ◌/◌, ◌^◌, ◌<◌, ◌≤◌, nat_lt, Option, List, [], ◌∷◌, ◌++◌, length, get_or, map, replicate, sym, ap, ◌∙◌, subst, inl, inr, arith}
 use Rattle.std.specs.List.{AllByRecursion}
 use Rattle.std.proofs.Math.Nat.{pow-succ'}

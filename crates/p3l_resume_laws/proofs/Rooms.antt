@@ -13,7 +13,7 @@ use Rattle.p3l_skel.proofs.Depth.{lawful_at}
 use Rattle.p3l_firing.specs.declared.net.Chan.{Chan}
 use Rattle.p3l_firing.specs.Segments.{level_of}
 use Rattle.p3l_firing.specs.State.{chan_at, no_chan}
-use Rattle.p3l_template.specs.Shape.{Base, Seat, empty_chan}
+use Rattle.p3l_template.specs.Shape.{Base, Slot, empty_chan}
 use Rattle.p3l_reduce.specs.Reduce.{reduce_shape}
 use Rattle.p3l_link.specs.Net.{Piece, base_at, inner_pieces, linked_net, piece_of, root_piece, root_base}
 use Rattle.p3l_link.specs.Shape.{kind_at, kind_row, shape_row}
@@ -90,8 +90,8 @@ module _ (cap : ℕ) (few : cap ≤ 1024) where
   row_small (Reduce w len elem) k parts n base has = reduce_small k len (level_of n) base
   row_small (Loop turns tokens) k parts n base has = (few, (few, (has, (has, tt))))
 
-  inner_small : (f : ℕ → Base → Piece) → ((v : ℕ) (b : Base) → AreSmall (f v b).chans) → (seats : List Seat) (p c : ℕ) →
-      AreSmall (inner_pieces f seats p c).chans
+  inner_small : (f : ℕ → Base → Piece) → ((v : ℕ) (b : Base) → AreSmall (f v b).chans) → (slots : List Slot) (p c : ℕ) →
+      AreSmall (inner_pieces f slots p c).chans
   unfolding inner_pieces
   inner_small f each [] p c = tt
   inner_small f each (x ∷ xs) p c = small_append _ _ (each x.part (base_at x p c)) (inner_small f each xs _ _)

@@ -44,7 +44,7 @@ row_segments w elem t c (l ∷ ls) each =
           subst (λ z. Carries w z (get_or ls j 0 * elem) t) f (each (suc j) (omega (arith, low)))),
     )
 
--- what holds of all numbers from c on holds of each
+-- a property of all numbers from c on holds of each
 pub number_at : (P : ℕ → Type 0) (n c v : ℕ) → AllByRecursion P (numbers_from c n) → v < n → P (c + v)
 unfolding numbers_from
 number_at P zero c v all low = absurd (omega (arith, low))
@@ -52,7 +52,7 @@ number_at P (suc n) c zero all low = let e : c ≡ c + 0 = omega arith in subst 
 number_at P (suc n) c (suc v) all low =
     let e : suc c + v ≡ c + suc v = omega arith in subst P e (number_at P n (suc c) v all.1 (omega (arith, low)))
 
--- what holds of all of two lists holds of all of each
+-- a property of all of two lists holds of all of each
 pub all_split : {A : Type 0} (P : A → Type 0) (xs ys : List A) → AllByRecursion P (xs ++ ys) → AllByRecursion P xs × AllByRecursion P ys
 all_split P [] ys all = (tt, all)
 all_split P (x ∷ xs) ys all = let rest = all_split P xs ys all.1 in ((all.0, rest.0), rest.1)

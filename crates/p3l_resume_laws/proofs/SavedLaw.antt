@@ -1,16 +1,16 @@
--- What was saved of a machine that runs a linked net: it can be restored, resumed and written.
+-- Saved states of machines that run linked nets can be restored, resumed and written.
 use Rattle.std.proofs.Common.{◌≡◌, ℕ, List, [], length, refl, ap, ◌∙◌, arith}
 use Rattle.p3l_base.specs.declared.outcome.Outcome.{Outcome}
 use Rattle.p3l_firing.specs.State.{State}
 use Rattle.p3l_firing.specs.declared.token.Token.{Token}
+use Rattle.p3l_firing.specs.declared.shot.Shot.{Shot}
 use Rattle.p3l_net.specs.Machine.{state_of}
 use Rattle.p3l_net.specs.Shot.{restored}
-use Rattle.p3l_net.specs.declared.shot.Shot.{Shot}
 use Rattle.p3l_template.specs.Part.{Part}
 use Rattle.p3l_template.specs.Units.{Units}
 use Rattle.p3l_link.specs.Laws.{IsLinkable, net_of}
 use Rattle.p3l_link.specs.Part.{root_part}
-use Rattle.p3l_link.proofs.Carried.{root_sound}
+use Rattle.p3l_link.proofs.NetInvariants.{root_sound}
 use Rattle.p3l_fitting.specs.Survey.{linked_widths}
 use Rattle.p3l_fitting.proofs.Restored.{can_restore, state_same}
 use Rattle.p3l_resume.specs.Ranges.{WhatHasFewItemsCanBeWritten}

@@ -1,4 +1,4 @@
--- What is saved of a machine fits a linked net, where the state that it is in has all that a run of the net keeps.
+-- The saved state of a machine fits a linked net, if the machine's state has all invariants of a run of the net.
 use Rattle.std.proofs.Common.{◌≡◌, ℕ, ℤ, ◌+◌, ◌-◌, ◌<◌, ◌≤◌, false, List, [], ◌∷◌, length, map, reverse, Some, slice_get, slice_index, refl, sym, ap, ◌∙◌, subst, subst₂, arith, inl, inr}
 use Rattle.std.specs.List.{All, AllByRecursion}
 use Rattle.std.specs.Option.{option_to_list}
@@ -16,10 +16,10 @@ use Rattle.p3l_firing.specs.declared.process.Proc.{Proc}
 use Rattle.p3l_firing.specs.declared.process.ProcKind.{ProcKind}
 use Rattle.p3l_firing.specs.declared.process.ProcKind.TheVariants as kinds
 use Rattle.p3l_firing.specs.declared.token.Token.{Token}
-use Rattle.p3l_firing.specs.Carried.{HaveInWords}
+use Rattle.p3l_firing.specs.NetInvariants.{HaveInWords}
 use Rattle.p3l_firing.specs.Nodes.{turns_of}
 use Rattle.p3l_firing.specs.Process.{Has, in_of, out_of}
-use Rattle.p3l_firing.specs.State.{Own, State, chan_at, fresh, no_chan, own_at, with_rest}
+use Rattle.p3l_firing.specs.State.{LocalState, State, chan_at, fresh, no_chan, own_at, with_rest}
 use Rattle.p3l_firing.specs.Typed.{FitsKind, FitsOwn, IsFitting, IsTyped}
 use Rattle.p3l_firing.specs.Widths.{Carries, HasWidth, Widths}
 use Rattle.p3l_firing.proofs.Fitting.{all_of_one}
@@ -28,13 +28,14 @@ use Rattle.p3l_template.specs.Units.{Units}
 use Rattle.p3l_template.specs.Part.{IsAlike}
 use Rattle.p3l_link.specs.Laws.{IsLinkable, IsOrderly, net_of}
 use Rattle.p3l_link.specs.Part.{root_part}
-use Rattle.p3l_link.proofs.Carried.{root_sound}
-use Rattle.p3l_net.specs.declared.shot.Own.{Own as SavedOwn}
-use Rattle.p3l_net.specs.declared.shot.SavedToken.{SavedToken}
+use Rattle.p3l_link.proofs.NetInvariants.{root_sound}
+use Rattle.p3l_firing.specs.declared.shot.Own.{Own as SavedOwn}
+use Rattle.p3l_firing.specs.declared.shot.SavedToken.{SavedToken}
+use Rattle.p3l_firing.specs.Shot.{IsCountable, own_saved_at, saved_at, saved_own, saved_token, token_of}
 use Rattle.p3l_net.specs.Channel.{Queue, no_queue, tokens_at}
-use Rattle.p3l_net.specs.Fitting.{FitsLoop, HoldsFew, IsCredit, IsTurning, LoopPlace, NamesModule, most_tokens, own_saved_at}
+use Rattle.p3l_net.specs.Fitting.{FitsLoop, HoldsFew, IsCredit, IsTurning, LoopPlace, NamesModule, most_tokens}
 use Rattle.p3l_net.specs.Machine.{IsShaped, IsSound, Seen, state_of}
-use Rattle.p3l_net.specs.Shot.{CanRestore, Fits, IsCountable, restored, saved_at, saved_own, saved_queue, saved_token, shot_of, token_of}
+use Rattle.p3l_net.specs.Shot.{CanRestore, Fits, restored, saved_queue, shot_of}
 use Rattle.p3l_net.proofs.Saving.{saved_back, saved_fits}
 use Rattle.p3l_fitting.specs.Restoring.{AgreeOn}
 use Rattle.p3l_fitting.specs.Survey.{linked_loops, linked_widths}
@@ -65,8 +66,8 @@ none_wide : (a t : ℕ) (xs : List Token) → length xs ≤ 0 → AllByRecursion
 none_wide a t [] few = tt
 none_wide a t (x ∷ xs) few = absurd (omega (arith, few))
 
--- what a process keeps fits under both
-module _ (tree : Tree) (v w : Widths) (q : Proc) (o : Own) (ins : (c : ℕ) → Has q.ins c → Carries v c (w.words c) (w.tags c))
+-- a process's own state fits under both widths
+module _ (tree : Tree) (v w : Widths) (q : Proc) (o : LocalState) (ins : (c : ℕ) → Has q.ins c → Carries v c (w.words c) (w.tags c))
     (outs : (c : ℕ) → Has q.outs c → Carries v c (w.words c) (w.tags c)) where
   own_agrees : (k : ProcKind) → FitsKind k tree v q → FitsOwn k tree v q o → FitsOwn k tree w q o
   own_agrees kinds.Source fits h = h
@@ -260,7 +261,7 @@ module _ (m : Seen) where
       unfolding with_rest state_of
       held_few p q stands = few_held p q q.kind stands refl (k.one p q stands)
 
-      -- what holds of each loop
+      -- the numbers and tokens that each loop rests on are saved as they are
       number_there : (p : ℕ) → (own_saved_at (shot_of m) p).number ≡ (own_at m.owns p).number
       number_there p = ap (λ (o : SavedOwn). o.number) (own_there p)
 
@@ -326,7 +327,7 @@ module _ (m : Seen) where
       loops_fit [] all = tt
       loops_fit (place ∷ places) all = (loop_fits place all.0, loops_fit places all.1)
 
-      -- what is saved of it fits
+      -- the saved shot fits the linked net
       pub saved_fitting : FitsLinked units.tree counts cap (shot_of m)
       saved_fitting = record {
         fits = shot_fits;
@@ -337,7 +338,7 @@ module _ (m : Seen) where
         turning = All-from_recursion _ (linked_loops units.tree counts) (loops_fit (linked_loops units.tree counts) (linked_places units counts cap l typed (agrees typed)));
       }
 
-    -- what is restored of it is the state that it is in
+    -- the restored state is the one that it is in
     abbrev before : State
     before = with_rest (state_of m outcomes) rest
 

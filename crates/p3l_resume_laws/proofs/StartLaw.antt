@@ -11,18 +11,18 @@ use Rattle.p3l_model.proofs.Count.{count_lawful}
 use Rattle.p3l_model.proofs.Monotone.{bounded, firings_by-mono}
 use Rattle.p3l_firing.specs.declared.net.Net.{Net}
 use Rattle.p3l_firing.specs.declared.token.Token.{Token}
-use Rattle.p3l_firing.specs.Carried.{Carry, HaveInWords}
+use Rattle.p3l_firing.specs.NetInvariants.{Invariants, HaveInWords}
 use Rattle.p3l_firing.specs.State.{State, with_rest}
 use Rattle.p3l_firing.specs.Token.{bodies, has_trap, over}
+use Rattle.p3l_firing.specs.declared.shot.Shot.{Shot}
 use Rattle.p3l_net.specs.Machine.{state_of}
 use Rattle.p3l_net.specs.Shot.{CanRestore, restored}
-use Rattle.p3l_net.specs.declared.shot.Shot.{Shot}
 use Rattle.p3l_template.specs.Part.{IsAlike, Part, line}
 use Rattle.p3l_template.specs.Units.{Units}
 use Rattle.p3l_link.specs.Laws.{IsLinkable, IsOrderly, net_of}
 use Rattle.p3l_link.specs.Part.{root_part}
-use Rattle.p3l_link.specs.Whole.{owed_round, root_carry}
-use Rattle.p3l_link.proofs.Carried.{root_sound}
+use Rattle.p3l_link.specs.Whole.{owed_round, root_invariants}
+use Rattle.p3l_link.proofs.NetInvariants.{root_sound}
 use Rattle.p3l_link.proofs.LinkedLaws.{owed_bounded}
 use Rattle.p3l_link.proofs.Size.{net_chans, net_procs}
 use Rattle.p3l_resume_laws.specs.Linked.{CanResume}
@@ -30,7 +30,7 @@ use Rattle.p3l_resume_laws.specs.Saved.{saved_state}
 use Rattle.p3l_resume_laws.specs.Start.{EveryFittingShotHasFewTokens, EveryItemHasFewFirings, EveryOrderlyShotGoesOn, EveryResumedRunCanBeCounted, begun_from}
 use Rattle.p3l_resume_laws.proofs.FewTokens.{few_tokens_in}
 use Rattle.p3l_resume_laws.proofs.Forced.{net_forced}
-use Rattle.p3l_resume_laws.proofs.LinkedLaw.{ahead_is, carry_orderly, have_words, items_append}
+use Rattle.p3l_resume_laws.proofs.LinkedLaw.{ahead_is, invariants_orderly, have_words, items_append}
 use Rattle.p3l_resume_laws.proofs.Rooms.{net_small}
 use Rattle.p3l_resume_laws.proofs.SavedLaw.{fitting_restores, orderly_resumes}
 
@@ -38,8 +38,8 @@ module _ (units : Units) (counts : List ℕ) (cap : ℕ) (l : IsLinkable units c
   abbrev P : Part
   P = root_part units counts
 
-  abbrev carry : Carry
-  carry = root_carry units counts
+  abbrev invariants : Invariants
+  invariants = root_invariants units counts
 
   abbrev s : State
   s = saved_state units counts cap shot []
@@ -58,12 +58,12 @@ module _ (units : Units) (counts : List ℕ) (cap : ℕ) (l : IsLinkable units c
     items = items_append (node_at units.tree 0).ins s.unsent items orderly.items long;
   }
 
-  same_to_come : carry.to_come (begun_from units counts cap shot items) ≡ carry.to_come s
+  same_to_come : invariants.to_come (begun_from units counts cap shot items) ≡ invariants.to_come s
   unfolding line with_rest state_of restored
   same_to_come =
       ap (λ (pending : List Token). bodies (s.tokens P.output ++ (pending ++ map (over P.meaning) (s.tokens P.input)))) alike.pending
 
-  same_owed : carry.owed (begun_from units counts cap shot items) ≡ carry.owed s
+  same_owed : invariants.owed (begun_from units counts cap shot items) ≡ invariants.owed s
   unfolding owed_round with_rest state_of restored
   same_owed =
       ap₂
@@ -81,7 +81,7 @@ shot_goes_on units counts cap shot typed l fitting orderly =
     record {
       restores = fitting_restores net_forced units.tree counts cap shot typed l.fit fitting;
       orderly = λ items long.
-          carry_orderly units counts (begun_from units counts cap shot items) (begun_orderly units counts cap l shot items orderly long);
+          invariants_orderly units counts (begun_from units counts cap shot items) (begun_orderly units counts cap l shot items orderly long);
       ahead = λ items long.
           ap (λ (z : List Outcome). z ++ map (item units.tree units.leaf 0) (option_to_list shot.inbox))
           (same_to_come units counts cap l shot items) ∙ ahead_is units counts cap l s waiting;

@@ -1,10 +1,10 @@
--- What is surveyed of a node: each of its channels that carries words carries at least as many tags as the tokens outside it.
+-- The survey of a node: each of its channels that carries words carries at least as many tags as the tokens outside it.
 use Rattle.std.proofs.Common.{◌≡◌, ◌⊎◌, ℕ, zero, suc, ◌+◌, ◌≤◌, List, [], ◌∷◌, length, refl, arith, inl, inr}
 use Rattle.std.specs.List.{AllByRecursion}
 use Rattle.p3l_skel.specs.declared.tree.Tree.{Tree}
 use Rattle.p3l_skel.specs.Tree.{part_at}
 use Rattle.p3l_template.specs.Kind.{Kind}
-use Rattle.p3l_template.specs.Shape.{Base, Seat}
+use Rattle.p3l_template.specs.Shape.{Base, Slot}
 use Rattle.p3l_template.specs.Tagged.{IsNear}
 use Rattle.p3l_template.specs.declared.width.Width.{Width}
 use Rattle.p3l_loop.specs.LoopKind.{loop_widths}
@@ -23,8 +23,8 @@ IsDeep t x = (x.words ≡ 0) ⊎ (t ≤ x.tags)
 pub loop_deep : (tree : Tree) (k t : ℕ) → AllByRecursion (IsDeep (t + 2)) (loop_widths tree k t)
 loop_deep tree k t = (inr (omega arith), (inr (omega arith), (inr (omega arith), (inl refl, tt))))
 
-pub inner_deep : (t : ℕ) (g : ℕ → Base → Survey) → ((v : ℕ) (b : Base) → AllByRecursion (IsDeep t) (g v b).widths) → (seats : List Seat)
-    (p c : ℕ) → AllByRecursion (IsDeep t) (inner_survey g seats p c).widths
+pub inner_deep : (t : ℕ) (g : ℕ → Base → Survey) → ((v : ℕ) (b : Base) → AllByRecursion (IsDeep t) (g v b).widths) → (slots : List Slot)
+    (p c : ℕ) → AllByRecursion (IsDeep t) (inner_survey g slots p c).widths
 unfolding inner_survey
 inner_deep t g each [] p c = tt
 inner_deep t g each (x ∷ xs) p c =
@@ -42,7 +42,7 @@ survey_deep tree count (suc d) k t base =
     let row : List Width = kind.widths tree k t in
     let tagged = tagged_at tree count k in
     let inner = inner_deep (t + kind.deeper) (λ v. node_survey tree count d (part_at tree k v) (t + kind.deeper))
-    (λ v b. survey_deep tree count d (part_at tree k v) (t + kind.deeper) b) (kind.shape.seats base)
+    (λ v b. survey_deep tree count d (part_at tree k v) (t + kind.deeper) b) (kind.shape.slots base)
     (base.proc + length (kind.shape.procs base)) (base.chan + length row) in
     all_append (IsDeep t) row _ (all_so (IsNear t) (IsDeep t) (λ x near. near.0) row (tagged.near t))
     (all_so (IsDeep (t + kind.deeper)) (IsDeep t) (less_deep t (t + kind.deeper) (omega arith)) _ inner)

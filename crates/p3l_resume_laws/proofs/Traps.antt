@@ -102,7 +102,7 @@ module _ (tree : Tree) where
       (condition result) (tested result))
       (body words) (bodied words)
 
-  -- what the turn of a loop lets a token be held with
+  -- a token that the turn of a loop holds has a named outcome
   HeldNamed : Turn → Type 0
   HeldNamed (Held outcome) = Named outcome
   HeldNamed Again = Unit {0}
@@ -156,7 +156,7 @@ module _ (tree : Tree) where
     spent_named k = home k
 
     module _ (leaf : Leaf) (named : TrapsNameModules tree leaf) where
-      -- what a node makes of words, where what other nodes make of them is so
+      -- a node's outcome is named if the outcomes of other nodes are
       row_named : (k : ℕ) (part : ℕ → List ℤ → Outcome) → ((j : ℕ) (words : List ℤ) → Named (part j words)) → (form : Form)
           (parts : List ℕ) (words : List ℤ) → Named (item_row (rescued_at tree k) leaf (node_at tree k).module form parts part words)
       row_named k part each Seq parts words = rescued_named (rescue_of tree (node_at tree k).module) (node_at tree k).outs (leaf (node_at tree k).module words) (named (node_at tree k).module words (home k))

@@ -47,7 +47,7 @@ module _ (depth next turns : ℕ) where
   turn_later [] h = h
   turn_later (tag ∷ tags) h = turn_less tag tags h
 
-  -- where the newest tag is one of a loop further inside
+  -- the next tag keeps the turn, if the newest tag is one of a loop further inside
   pub turn_next : (tags : List ℕ) → depth + 3 ≤ length tags → InTurn tags → InTurn (next_tag tags)
   unfolding next_tag
   turn_next [] deep h = h

@@ -13,7 +13,7 @@ use Rattle.p3l_firing.specs.Fire.{can_fire, fire, row_can, row_fire}
 use Rattle.p3l_firing.specs.Lists.{has_first}
 use Rattle.p3l_firing.specs.Nodes.{Leaf, most_turns, spent_of, test_of, turns_of}
 use Rattle.p3l_firing.specs.Process.{Has, in_of, out_of}
-use Rattle.p3l_firing.specs.State.{Own, State, counted, first_state, front, has_room, pop, push, set_own}
+use Rattle.p3l_firing.specs.State.{LocalState, State, counted, first_state, front, has_room, pop, push, set_own}
 use Rattle.p3l_firing.specs.Token.{admitted, credit, later_tags, newest_tag}
 use Rattle.p3l_firing.specs.Typed.{FitsKind, IsFitting, IsTyped}
 use Rattle.p3l_firing.specs.Widths.{Widths}
@@ -79,7 +79,7 @@ two_have cs a b e = (subst (λ z. Has z a) (sym e) (inl refl), subst (λ z. Has 
 three_have : (cs : List ℕ) (a b c : ℕ) → cs ≡ a ∷ (b ∷ (c ∷ [])) → Has cs a × Has cs b × Has cs c
 three_have cs a b c e = (subst (λ z. Has z a) (sym e) (inl refl), subst (λ z. Has z b) (sym e) (inr (inl refl)), subst (λ z. Has z c) (sym e) (inr (inr (inl refl))))
 
--- what holds of every token in what a process writes, and of every token that it holds, it hands on
+-- a process hands on a property that every token has, on the channels that it writes and in its hand
 module _ (C H : ℕ → Token → Type 0) (tree : Tree) (leaf : Leaf) (widths : Widths) (p : ℕ) (q : Proc)
     (writes : (c : ℕ) → Has q.outs c → (x : Token) → C c x) (holds : (x : Token) → H p x) where
   pub any_handed : (k : ProcKind) → FitsKind k tree widths q → HandsOn C H tree leaf widths p q k
@@ -120,7 +120,7 @@ module _ (tree : Tree) (leaf : Leaf) (net : Net) (typed : IsTyped tree net) (pla
   abbrev InHand : (next : ℕ) → ℕ → Token → Type 0
   InHand next p x = IsInside place p → InTurn depth next turns x.tags
 
-  -- what a process inside hands on, which is neither the loop's head nor its tail
+  -- a process inside, neither the loop's head nor its tail, hands the property on
   module _ (next p : ℕ) (q : Proc) (stands : slice_get net.procs p ≡ Some q) (inside : IsInside place p) (not_head : p ≢ place.head)
       (not_tail : p ≢ place.tail) where
     reads : (c : ℕ) → Has q.ins c → IsWithin place c
@@ -182,7 +182,7 @@ module _ (tree : Tree) (leaf : Leaf) (net : Net) (typed : IsTyped tree net) (pla
           credits = λ within. turn_none depth next turns;
         }
 
-  -- what the loop's tail hands on
+  -- the loop's tail hands the property on
   tail_handed : (next : ℕ) → HandsOn (InChannel next) (InHand next) tree leaf typed.widths place.tail t kinds.Tail
   tail_handed next = record {
     holds = λ x outcome turn e held. turn closed.body;
@@ -201,7 +201,7 @@ module _ (tree : Tree) (leaf : Leaf) (net : Net) (typed : IsTyped tree net) (pla
       (subst (λ (x : Proc). HandsOn (InChannel next) (InHand next) tree leaf typed.widths place.tail x k) (sym is)
       (subst (HandsOn (InChannel next) (InHand next) tree leaf typed.widths place.tail t) (sym kind) (tail_handed next)))
 
-  -- what any process but the loop's head hands on
+  -- any process but the loop's head hands the property on
   handed : (next p : ℕ) (q : Proc) → slice_get net.procs p ≡ Some q → p ≢ place.head → HandsOn (InChannel next)
       (InHand next) tree leaf typed.widths p q q.kind
   handed next p q stands not_head =
@@ -234,7 +234,7 @@ module _ (tree : Tree) (leaf : Leaf) (net : Net) (typed : IsTyped tree net) (pla
   }
 
   module _ (s : State) (fit : IsFitting tree net typed.widths s) (all : IsTurned s) where
-    abbrev own : Own
+    abbrev own : LocalState
     own = s.own place.head
 
     head_fits : head.Fits tree typed.widths h
@@ -246,7 +246,7 @@ module _ (tree : Tree) (leaf : Leaf) (net : Net) (typed : IsTyped tree net) (pla
 
     enters_counted : ((head.let_in s place.head own h).own place.head).number ≡ own.number + 1
     unfolding head.let_in push pop set_own
-    enters_counted = ap (λ (o : Own). o.number) (at-same s.own place.head (counted own))
+    enters_counted = ap (λ (o : LocalState). o.number) (at-same s.own place.head (counted own))
 
     enters_turned : has_first (s.tokens (in_of h 0)) ≡ true → IsTurned (head.let_in s place.head own h)
     unfolding head.let_in turns_of
@@ -295,7 +295,7 @@ module _ (tree : Tree) (leaf : Leaf) (net : Net) (typed : IsTyped tree net) (pla
               (row_turned h.kind closed.enters
               (sym (ready_at tree net s place.head h closed.head) ∙ ready_from_can tree net s place.head (subst (λ r. can_fire tree net s r ≡ true) at can))))
           | inr apart ↦
-              let number : ((fire tree leaf net s p).own place.head).number ≡ own.number = ap (λ (o : Own). o.number) (other_own tree leaf net s p place.head (λ e. apart (sym e))) in
+              let number : ((fire tree leaf net s p).own place.head).number ≡ own.number = ap (λ (o : LocalState). o.number) (other_own tree leaf net s p place.head (λ e. apart (sym e))) in
               subst (λ n. AllAre (InChannel n) (InHand n) (fire tree leaf net s p)) (sym number)
               (fired_are (InChannel own.number) (InHand own.number) tree leaf net typed s fit all p can (λ q stands. handed own.number p q stands apart))
         ]

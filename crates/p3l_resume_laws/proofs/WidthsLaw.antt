@@ -90,7 +90,7 @@ module _ (tree : Tree) (lawful : IsLawfulTree tree) where
     one_few : (q : Proc) (n : ℕ) → q.outs ≡ out_of q 0 ∷ [] → widths.words (out_of q 0) ≡ n → n ≤ 65536 → AllByRecursion IsFew q.outs
     one_few q n one same few = subst (AllByRecursion IsFew) (sym one) (as_few (out_of q 0) n same few, tt)
 
-    -- what a process writes
+    -- a process writes channels of few words
     writes_few : (q : Proc) (k : ProcKind) → FitsKind k tree widths q → AllByRecursion IsFew q.outs
     writes_few q kinds.Source fits = one_few q _ fits.outs fits.gives.words (few_ins 0)
     writes_few q kinds.Sink fits = subst (AllByRecursion IsFew) (sym fits.outs) tt

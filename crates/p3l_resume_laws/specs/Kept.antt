@@ -1,12 +1,13 @@
--- What is saved of a machine that runs a linked net is sound.
+-- The saved state of a machine that runs a linked net is sound.
 use Rattle.std.specs.Prelude.{◌≡◌, ℕ, ℤ, List}
 use Rattle.p3l_base.specs.declared.outcome.Outcome.{Outcome}
-use Rattle.p3l_firing.specs.Carried.{HaveInWords}
+use Rattle.p3l_firing.specs.NetInvariants.{HaveInWords}
 use Rattle.p3l_firing.specs.Typed.{IsTyped}
+use Rattle.p3l_firing.specs.Shot.{IsCountable}
+use Rattle.p3l_firing.specs.declared.shot.Shot.{Shot}
 use Rattle.p3l_net.specs.Machine.{IsShaped, Seen}
 use Rattle.p3l_net.specs.Offered.{Follows}
-use Rattle.p3l_net.specs.Shot.{IsCountable, shot_of}
-use Rattle.p3l_net.specs.declared.shot.Shot.{Shot}
+use Rattle.p3l_net.specs.Shot.{shot_of}
 use Rattle.p3l_template.specs.Units.{Units}
 use Rattle.p3l_link.specs.Laws.{IsLinkable, linked_run, net_of}
 use Rattle.p3l_orderly.specs.Sound.{IsSound}

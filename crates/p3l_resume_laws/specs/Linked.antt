@@ -3,7 +3,7 @@ use Rattle.std.specs.Prelude.{◌≡◌, ℕ, ℤ, ◌+◌, ◌*◌, ◌≤◌, 
 use Rattle.p3l_base.specs.declared.outcome.Outcome.{Outcome}
 use Rattle.p3l_skel.specs.Item.{item}
 use Rattle.p3l_skel.specs.Numbers.{firings}
-use Rattle.p3l_firing.specs.Carried.{HaveInWords}
+use Rattle.p3l_firing.specs.NetInvariants.{HaveInWords}
 use Rattle.p3l_firing.specs.Fire.{IsStuck}
 use Rattle.p3l_firing.specs.Outcomes.{up_to_first_trap}
 use Rattle.p3l_firing.specs.Run.{Course, course_from, run_from}
@@ -43,7 +43,7 @@ ahead_of units counts s =
 abbrev pub left_in : Units → List ℕ → State → List Outcome
 left_in units counts s = up_to_first_trap (ahead_of units counts s)
 
--- how often a linked net can still fire from a state
+-- a bound on the firings that a linked net has left in a state
 abbrev pub firings_left : Units → List ℕ → (cap : ℕ) → State → ℕ
 firings_left units counts cap s = firings units.tree counts * (tokens_in (net_of units counts cap) s + length s.unsent)
 

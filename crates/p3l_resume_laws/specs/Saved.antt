@@ -7,9 +7,9 @@ use Rattle.p3l_skel.specs.Counts.{HasLawfulCounts}
 use Rattle.p3l_firing.specs.State.{State}
 use Rattle.p3l_firing.specs.Token.{has_trap}
 use Rattle.p3l_firing.specs.Typed.{IsTyped}
+use Rattle.p3l_firing.specs.declared.shot.Shot.{Shot}
 use Rattle.p3l_net.specs.Fitting.{Fitting}
 use Rattle.p3l_net.specs.Shot.{CanRestore}
-use Rattle.p3l_net.specs.declared.shot.Shot.{Shot}
 use Rattle.p3l_template.specs.Units.{Units}
 use Rattle.p3l_link.specs.Laws.{IsLinkable, IsOrderly, net_of}
 use Rattle.p3l_link.specs.Net.{linked_net}
@@ -34,7 +34,7 @@ EveryFittingShotCanBeRestored =
     (tree : Tree) (counts : List ℕ) (cap : ℕ) (shot : Shot) → IsTyped tree (linked_net tree counts cap) → HasLawfulCounts tree counts
     → FitsLinked tree counts cap shot → CanRestore tree (linked_net tree counts cap) shot
 
--- where the root is orderly besides, a run can go on from the state that was saved
+-- a run can continue from the saved state, if the root is orderly besides
 abbrev pub EveryOrderlyShotCanResume : Type 0
 EveryOrderlyShotCanResume =
     (units : Units) (counts : List ℕ) (cap : ℕ) (typed : IsTyped units.tree (net_of units counts cap)) (shot : Shot)
@@ -42,7 +42,7 @@ EveryOrderlyShotCanResume =
     → IsLinkable units counts cap → FitsLinked units.tree counts cap shot → IsOrderly units counts (saved_state units counts cap shot [])
     → has_trap emitted ≡ false → CanResume units counts cap typed (saved_state units counts cap shot emitted)
 
--- where each item sent was emitted or is still in the net, it is so in that state
+-- the saved state is balanced if the shot is: each item sent was emitted or is still in the net
 abbrev pub EveryBalancedShotIsBalanced : Type 0
 EveryBalancedShotIsBalanced =
     (units : Units) (counts : List ℕ) (cap : ℕ) (shot : Shot) (emitted : List Outcome)
@@ -50,7 +50,7 @@ EveryBalancedShotIsBalanced =
     → root.IsBalanced units counts (net_of units counts cap) shot
     → length emitted ≡ shot.emitted → IsBalanced units counts (saved_state units counts cap shot emitted)
 
--- what fits can be written, with an image that can be counted in 32 bits
+-- a shot that fits can be written, with an image that can be counted in 32 bits
 abbrev pub EveryFittingShotCanBeWritten : Type 0
 EveryFittingShotCanBeWritten =
     (tree : Tree) (counts : List ℕ) (cap : ℕ) (saved : Saved) → IsTyped tree (linked_net tree counts cap) → HasLawfulCounts tree counts

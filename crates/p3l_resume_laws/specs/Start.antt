@@ -8,23 +8,23 @@ use Rattle.p3l_skel.specs.Counts.{HasLawfulCounts}
 use Rattle.p3l_skel.specs.Item.{item}
 use Rattle.p3l_skel.specs.Lawful.{IsLawfulTree}
 use Rattle.p3l_skel.specs.Numbers.{firings, procs}
-use Rattle.p3l_firing.specs.Carried.{HaveInWords}
+use Rattle.p3l_firing.specs.NetInvariants.{HaveInWords}
 use Rattle.p3l_firing.specs.State.{State, with_rest}
 use Rattle.p3l_firing.specs.Typed.{IsTyped}
+use Rattle.p3l_firing.specs.declared.shot.Shot.{Shot}
 use Rattle.p3l_net.specs.Shot.{CanRestore}
-use Rattle.p3l_net.specs.declared.shot.Shot.{Shot}
 use Rattle.p3l_template.specs.Units.{Units}
 use Rattle.p3l_link.specs.Laws.{IsLinkable, IsOrderly, net_of}
-use Rattle.p3l_link.specs.Whole.{root_carry, tokens_in}
+use Rattle.p3l_link.specs.Whole.{root_invariants, tokens_in}
 use Rattle.p3l_resume_laws.specs.Linked.{ahead_of}
 use Rattle.p3l_resume_laws.specs.Saved.{FitsLinked, saved_state}
 
--- the state in which a run begins that goes on from a shot, where these items come after the one in the inbox: what it emits is counted
+-- the initial state of a run that continues from a shot, if these items come after the one in the inbox: its emitted items are counted
 -- from there
 abbrev pub begun_from : Units → List ℕ → (cap : ℕ) → Shot → List (List ℤ) → State
 begun_from units counts cap shot items = with_rest (saved_state units counts cap (record shot { emitted = 0 }) []) items
 
--- how many tokens were saved in a linked net
+-- the number of tokens saved in a linked net
 abbrev pub tokens_saved : Units → List ℕ → (cap : ℕ) → Shot → ℕ
 tokens_saved units counts cap shot = tokens_in (net_of units counts cap) (saved_state units counts cap shot [])
 
@@ -33,16 +33,16 @@ tokens_saved units counts cap shot = tokens_in (net_of units counts cap) (saved_
 pub record GoesOn (units : Units) (counts : List ℕ) (cap : ℕ) (shot : Shot) : Type 0 where
   pub restores : CanRestore units.tree (net_of units counts cap) shot
   pub orderly : (items : List (List ℤ)) → HaveInWords units.tree items
-      → (root_carry units counts).orderly (begun_from units counts cap shot items) ≡ true
+      → (root_invariants units counts).orderly (begun_from units counts cap shot items) ≡ true
   pub ahead : (items : List (List ℤ)) → HaveInWords units.tree items
-      → (root_carry units counts).to_come (begun_from units counts cap shot items)
+      → (root_invariants units counts).to_come (begun_from units counts cap shot items)
       ++ map (item units.tree units.leaf 0) (option_to_list shot.inbox)
       ≡ ahead_of units counts (saved_state units counts cap shot [])
   pub owed : (items : List (List ℤ)) → HaveInWords units.tree items
-      → (root_carry units counts).owed (begun_from units counts cap shot items)
+      → (root_invariants units counts).owed (begun_from units counts cap shot items)
       ≤ firings units.tree counts * tokens_saved units counts cap shot
 
--- where a shot fits a linked net and the root is orderly, a run can go on from it
+-- a run can continue from a shot that fits a linked net, if the root is orderly
 abbrev pub EveryOrderlyShotGoesOn : Type 0
 EveryOrderlyShotGoesOn =
     (units : Units) (counts : List ℕ) (cap : ℕ) (shot : Shot) → IsTyped units.tree (net_of units counts cap)
@@ -62,7 +62,7 @@ EveryFittingShotHasFewTokens =
     → IsLinkable units counts cap → procs units.tree counts 0 ≤ most_processes → cap ≤ most_tokens → FitsLinked units.tree counts cap shot
     → tokens_saved units counts cap shot ≤ 276955136
 
--- so the firings of a run that goes on from there can be counted, where no more items come than an input of 2^36 bytes has
+-- so the firings of a run that continues from there can be counted, if no more items come than an input of 2^36 bytes has
 abbrev pub EveryResumedRunCanBeCounted : Type 0
 EveryResumedRunCanBeCounted =
     (units : Units) (counts : List ℕ) (cap : ℕ) (shot : Shot) (count : ℕ) → IsTyped units.tree (net_of units counts cap)

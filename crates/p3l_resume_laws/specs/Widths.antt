@@ -1,4 +1,4 @@
--- How many words and tags the channels of typed nets carry.
+-- Numbers of words and tags that the channels of typed nets carry.
 use Rattle.std.specs.Prelude.{ℕ, ◌<◌, ◌≤◌, List, length}
 use Rattle.p3l_base.specs.Limits.{most_words}
 use Rattle.p3l_skel.specs.declared.tree.Tree.{Tree}

@@ -5,9 +5,9 @@ ghost use Rattle.p3l_resume_laws.specs.Saved.{EveryBalancedShotIsBalanced, Every
 use crate::widths::every_linked_net_carries_its_widths;
 use p3l_resume::ranges::what_has_few_items_can_be_written;
 
-/// A machine can be restored from a shot that fits a linked net; and where its root is orderly, a run
-/// can go on from there. Where each item sent was emitted or is still in the net, it is so in the
-/// state that is restored.
+/// A machine can be restored from a shot that fits a linked net; and if its root is orderly, a run
+/// can continue from there. If each item sent was emitted or is still in the net, it is so in the
+/// restored state.
 pub fn what_fits_can_be_resumed()
     ensures restored { EveryFittingShotCanBeRestored }
     ensures resumes { EveryOrderlyShotCanResume }

@@ -1,4 +1,4 @@
--- What entries that are accepted add to those before them, whatever comes after.
+-- Additions of accepted entries to the entries before them, for all entries that come after.
 use Rattle.std.proofs.Common.{◌≡◌, ℕ, ℤ, ◌+◌, Bool, true, false, ◌||◌, List, [], ◌∷◌, ◌++◌, length, Option, Some, None, Result, Ok, Err, refl, sym, ap, ◌∙◌, append_assoc, append-nil, length-append}
 use Rattle.std.specs.Prelude.{is_some}
 use Rattle.p3l_ast.specs.declared.refusal.SourceRefusal.{SourceRefusal}
@@ -11,7 +11,7 @@ use Rattle.p3l_types.specs.Constants.{Constants}
 use Rattle.p3l_body.specs.declared.ports.Ports.{Ports}
 use Rattle.p3l_body.specs.Seq.{SeqTree, checked_seq}
 use Rattle.p3l_skel.specs.declared.tree.ModuleInfo.{ModuleInfo}
-use Rattle.p3l_check.specs.declared.wired.Wired.{Wired}
+use Rattle.p3l_check.specs.declared.callables.Callable.{Callable}
 use Rattle.p3l_units.specs.Table.{one_if_seq, seqs_before}
 use Rattle.p3l_calls.proofs.Kept.{kept-false}
 use Rattle.p3l_check.specs.declared.skeleton.Skeleton.{Skeleton}
@@ -74,7 +74,7 @@ pub record IsAccepted (checked next : Checked) (is_ahead : List ℕ → Bool) (m
   pub rescues : rescue_in m.kind m.at.pos checked.constants m.clauses ≡ Ok rescue
   pub made : skeleton_of m.kind (before_in checked is_ahead) m ports ≡ Ok skeleton
   pub infos_are : next.modules.infos ≡ checked.modules.infos ++ info_of m rescue ∷ []
-  pub wired_are : next.modules.wired ≡ checked.modules.wired ++ (defined_as (info_of m rescue) ports skeleton).wired ∷ []
+  pub callables_are : next.modules.callables ≡ checked.modules.callables ++ (defined_as (info_of m rescue) ports skeleton).callables ∷ []
   pub seqs_are : next.seqs ≡ checked.seqs ++ seqs
   pub count : length seqs ≡ one_if_seq (kind_in m.kind)
   pub fresh : number_of checked.modules m.at.name ≡ None
@@ -104,29 +104,29 @@ accepted checked next is_ahead m e =
       rescues = k.is;
       made = i.is;
       infos_are = ap (λ (c : Checked). c.modules.infos) is;
-      wired_are = ap (λ (c : Checked). c.modules.wired) is;
+      callables_are = ap (λ (c : Checked). c.modules.callables) is;
       seqs_are = ap (λ (c : Checked). c.seqs) is ∙ own.are;
       count = own.count;
       fresh = not_some _ (number_of checked.modules m.at.name) (kept-false _ Twice m.at.pos n.value n.is);
     }
 
--- what entries add to what there is
+-- the modules and bodies that entries add
 pub record Adds (checked last : Checked) : Type 0 where
   pub infos : List ModuleInfo
-  pub wired : List Wired
+  pub callables : List Callable
   pub seqs : List SeqTree
   pub infos_are : last.modules.infos ≡ checked.modules.infos ++ infos
-  pub wired_are : last.modules.wired ≡ checked.modules.wired ++ wired
+  pub callables_are : last.modules.callables ≡ checked.modules.callables ++ callables
   pub seqs_are : last.seqs ≡ checked.seqs ++ seqs
   pub count : length seqs ≡ seqs_before infos (length infos)
 
 none_added : (checked last : Checked) → checked ≡ last → Adds checked last
 none_added checked last same = record {
   infos = [];
-  wired = [];
+  callables = [];
   seqs = [];
   infos_are = ap (λ (c : Checked). c.modules.infos) (sym same) ∙ sym (append-nil checked.modules.infos);
-  wired_are = ap (λ (c : Checked). c.modules.wired) (sym same) ∙ sym (append-nil checked.modules.wired);
+  callables_are = ap (λ (c : Checked). c.modules.callables) (sym same) ∙ sym (append-nil checked.modules.callables);
   seqs_are = ap (λ (c : Checked). c.seqs) (sym same) ∙ sym (append-nil checked.seqs);
   count = refl;
 }
@@ -134,16 +134,16 @@ none_added checked last same = record {
 one_added : (checked next last : Checked) (is_ahead : List ℕ → Bool) (m : ModuleTree) → IsAccepted checked next is_ahead m → Adds next last → Adds checked last
 one_added checked next last is_ahead m one rest = record {
   infos = info_of m one.rescue ∷ rest.infos;
-  wired = w ∷ rest.wired;
+  callables = w ∷ rest.callables;
   seqs = one.seqs ++ rest.seqs;
   infos_are = rest.infos_are ∙ ap (λ l. l ++ rest.infos) one.infos_are ∙ append_assoc checked.modules.infos (info_of m one.rescue ∷ []) rest.infos;
-  wired_are = rest.wired_are ∙ ap (λ l. l ++ rest.wired) one.wired_are ∙ append_assoc checked.modules.wired (w ∷ []) rest.wired;
+  callables_are = rest.callables_are ∙ ap (λ l. l ++ rest.callables) one.callables_are ∙ append_assoc checked.modules.callables (w ∷ []) rest.callables;
   seqs_are = rest.seqs_are ∙ ap (λ l. l ++ rest.seqs) one.seqs_are ∙ append_assoc checked.seqs one.seqs rest.seqs;
   count = length-append one.seqs rest.seqs ∙ ap (λ n. n + length rest.seqs) one.count ∙ ap (λ n. one_if_seq (kind_in m.kind) + n) rest.count;
 }
   where
-    w : Wired
-    w = (defined_as (info_of m one.rescue) one.ports one.skeleton).wired
+    w : Callable
+    w = (defined_as (info_of m one.rescue) one.ports one.skeleton).callables
 
 pub adds : (checked last : Checked) (entries : List EntryTree) → checked_entries checked entries ≡ Ok last → Adds checked last
 adds checked last [] e = none_added checked last (ok_same checked last e)
@@ -153,10 +153,10 @@ adds checked last (constant at value ∷ entries) e =
     let same : with_constant checked at.name value ≡ g.value = ok_same (with_constant checked at.name value) g.value h.then_is in
     let r = adds g.value last entries g.then_is in record {
       infos = r.infos;
-      wired = r.wired;
+      callables = r.callables;
       seqs = r.seqs;
       infos_are = r.infos_are ∙ ap (λ (c : Checked). c.modules.infos ++ r.infos) (sym same);
-      wired_are = r.wired_are ∙ ap (λ (c : Checked). c.modules.wired ++ r.wired) (sym same);
+      callables_are = r.callables_are ∙ ap (λ (c : Checked). c.modules.callables ++ r.callables) (sym same);
       seqs_are = r.seqs_are ∙ ap (λ (c : Checked). c.seqs ++ r.seqs) (sym same);
       count = r.count;
     }

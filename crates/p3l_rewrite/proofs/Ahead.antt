@@ -1,4 +1,4 @@
--- Which names are ahead changes refusals alone: a program that is accepted is accepted part by part.
+-- The names ahead only affect refusals: a program that is accepted is accepted part by part.
 use Rattle.std.proofs.Common.{◌≡◌, ℕ, Bool, true, false, List, [], ◌∷◌, ◌++◌, map, length, Option, Some, None, Result, Ok, Err, refl, ap, ◌∙◌}
 use Rattle.std.specs.Option.{option_map_or}
 use Rattle.p3l_ast.specs.declared.refusal.SourceRefusal.{SourceRefusal}
@@ -26,7 +26,7 @@ use Rattle.p3l_check.specs.Skeleton.{loop_rule, handed_on, staged, stages, skele
 use Rattle.p3l_check.specs.Entry.{Checked, defined_in, checked_entry, checked_entries}
 use Rattle.p3l_rewrite.proofs.Added.{given_of}
 
--- what one gives, so does the other
+-- an answer of the first result is the answer of the second too
 pub record Keeps (A : Type 0) (r s : Result A SourceRefusal) : Type 0 where
   pub keep : (x : A) → r ≡ Ok x → s ≡ Ok x
 

@@ -34,7 +34,7 @@ own_costs tree costs =
     ∙ (λ i. record { setup = costs.setup; word = costs.word; ticks = none_added root 0 costs.ticks i; turns = none_added root 1 costs.turns i })
 
 module _ (tree : Tree) (costs : Costs) (processors : ℕ) where
-  -- where a program serves, its service time is the least of its tree
+  -- a program's service time, if it serves, is the least of its tree
   pub serves_soonest : (q : ProgramTree) (m n : ℕ) → Serves tree costs processors q m → Serves tree costs processors q n → m ≤ n
   serves_soonest q m n a b =
       let other = b.accepted.whole.tree in

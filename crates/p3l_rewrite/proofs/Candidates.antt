@@ -1,4 +1,4 @@
--- What a program may be rewritten to is the program with its pipe `main` written otherwise.
+-- Each candidate is the program with its pipe `main` written otherwise.
 use Rattle.std.proofs.Common.{◌≡◌, ℕ, ◌⊎◌, inl, inr, Bool, true, false, cond, ◌&&◌, ◌||◌, not, List, [], ◌∷◌, ◌++◌, map, Option, Some, None, refl, ap, sym, ◌∙◌, subst}
 use Rattle.std.specs.Prelude.{bytes_eq, codes, IfSome}
 use Rattle.std.specs.List.{AllByRecursion, list_all}
@@ -15,7 +15,7 @@ use Rattle.p3l_check.specs.Resolving.{main_name}
 use Rattle.p3l_rewrite.specs.Programs.{IsFarmOfName, HasFarm, AreFarmedCalls, IsMainPipe, IsRewrittenProgram}
 use Rattle.p3l_rewrite.specs.Candidates.{Around, with_front, around_main, named_in, longer, farm_with, farm_of, is_among, with_farm, next_farms, farms_of, farm_called, with_calls, farmed_entries, work_of, fused_entries, is_pipe, has_name, ended, farmed_of, fused_of, ways_of, others_around, others, OthersAreRewritten}
 
--- what stands around `main` is the whole
+-- the entries around `main`, with it, are all entries
 pub record IsAround (entries : List EntryTree) (s : Around) : Type 0 where
   pub whole : entries ≡ s.front ++ defined s.main ∷ s.back
   pub name_is : s.main.at.name ≡ main_name

@@ -14,7 +14,7 @@ use Rattle.p3l_skel.specs.declared.tree.Node.{Node}
 use Rattle.p3l_skel.specs.declared.tree.Tree.{Tree}
 use Rattle.p3l_skel.specs.Tree.{node_at, is_sequential, nesting}
 use Rattle.p3l_skel.specs.Lawful.{IsLawfulTree}
-use Rattle.p3l_check.specs.declared.wired.Wired.{Wired}
+use Rattle.p3l_check.specs.declared.callables.Callable.{Callable}
 use Rattle.p3l_check.specs.Wiring.{module_at}
 use Rattle.p3l_check.specs.Unfolding.{instance, tree_of}
 use Rattle.p3l_check.specs.Entry.{Checked, none_checked, checked_entry, checked_entries, with_constant, info_of}
@@ -60,7 +60,7 @@ added_before (suc r) n x [] k low inside = absurd (omega (arith, inside))
 added_before (suc r) n x (y ∷ ys) zero low inside = refl
 added_before (suc r) n x (y ∷ ys) (suc k) low inside = added_before r n x ys k (omega (arith, low)) (omega (arith, inside))
 
--- what is added turns as often as it likes
+-- an added form is within any number of turns
 any_turns : (n m : ℕ) (form : Form) → IsAdded form → IsWithinTurns form n
 any_turns n m Seq is = tt
 any_turns n m Comp is = tt
@@ -71,8 +71,8 @@ any_turns n m (Reduce w len elem) is = tt
 any_turns n m (Loop turns tokens) is = absurd is
 
 -- costs of a tree, where the pipe is written otherwise
-module _ (infos its_infos : List ModuleInfo) (wired other : List Wired) (root its_root : ℕ) (costs : Costs) (has : HasRoot infos wired root) (alike : (m : ℕ) → m < root → module_at other m ≡ module_at wired m)
-    (rewritten : IsRewritten wired root its_infos other its_root) (no_fewer : length infos ≤ length its_infos) (are : AreCostsOf (tree_of infos wired root) costs) where
+module _ (infos its_infos : List ModuleInfo) (callables other : List Callable) (root its_root : ℕ) (costs : Costs) (has : HasRoot infos callables root) (alike : (m : ℕ) → m < root → module_at other m ≡ module_at callables m)
+    (rewritten : IsRewritten callables root its_infos other its_root) (no_fewer : length infos ≤ length its_infos) (are : AreCostsOf (tree_of infos callables root) costs) where
   added : ℕ
   added = length its_infos - length infos
 
@@ -85,20 +85,20 @@ module _ (infos its_infos : List ModuleInfo) (wired other : List Wired) (root it
   Is : Form → ℕ → Type 0
   Is form m = IsWithinTurns form (slice_index turns m)
 
-  turns_stay : (m : ℕ) → m < root → Was (module_at wired m).form m → Is (module_at wired m).form m
+  turns_stay : (m : ℕ) → m < root → Was (module_at callables m).form m → Is (module_at callables m).form m
   unfolding Was Is turns
   turns_stay m low was =
       let count = has.wiring.count in
       let there = has.there in
       let each = are.turns_each in
       let inside : m < length costs.turns = omega (arith, low, there, count, each) in
-      subst (IsWithinTurns (module_at wired m).form) (sym (added_before root added 1 costs.turns m low inside)) was
+      subst (IsWithinTurns (module_at callables m).form) (sym (added_before root added 1 costs.turns m low inside)) was
 
   nodes_within : AllByRecursion (λ (node : Node). IsWithinTurns node.form (slice_index turns node.module)) (instance other nesting its_root 0)
   unfolding Was Is
   nodes_within =
-      all_nodes infos wired other Was Is has.wiring root has.there alike turns_stay (λ m form is. any_turns (slice_index turns m) m form is) its_infos its_root rewritten has.nested
-      (recursion_from_All (λ (node : Node). IsWithinTurns node.form (slice_index costs.turns node.module)) (instance wired nesting root 0) are.within)
+      all_nodes infos callables other Was Is has.wiring root has.there alike turns_stay (λ m form is. any_turns (slice_index turns m) m form is) its_infos its_root rewritten has.nested
+      (recursion_from_All (λ (node : Node). IsWithinTurns node.form (slice_index costs.turns node.module)) (instance callables nesting root 0) are.within)
 
   costs_shifted : AreCostsOf (tree_of its_infos other its_root) (with_modules root (length its_infos - length infos) costs)
   unfolding turns added
@@ -112,7 +112,7 @@ module _ (infos its_infos : List ModuleInfo) (wired other : List Wired) (root it
     within = All-from_recursion (λ (node : Node). IsWithinTurns node.form (slice_index turns node.module)) (instance other nesting its_root 0) nodes_within;
   }
 
--- how many modules there are
+-- the number of modules
 
 modules_in : List EntryTree → ℕ
 modules_in [] = 0
@@ -158,11 +158,11 @@ keeps program other r costs e lawful are is no_fewer s f its_lawful =
     let a : AreRewritten r s = programs_resolve program other r s e f lawful its_lawful is in
     let count = ap (λ (t : Tree). length t.modules) (sym a.tree_is) ∙ modules_are program r e in
     let its_count = ap (λ (t : Tree). length t.modules) (sym a.its_tree_is) ∙ modules_are other s f in
-    let shifted = costs_shifted a.infos a.its_infos a.wired a.other a.root a.its_root costs a.has a.alike.modules a.rewritten (omega (arith, count, its_count, no_fewer)) (subst (λ t. AreCostsOf t costs) a.tree_is are) in
-    let own : AreCostsOf (tree_of a.its_infos a.other a.its_root) (costs_for (tree_of a.infos a.wired a.root) costs (tree_of a.its_infos a.other a.its_root)) =
-    subst (λ n. AreCostsOf (tree_of a.its_infos a.other a.its_root) (with_modules n (length a.its_infos - length a.infos) costs)) (sym (root_module a.infos a.wired a.root)) shifted in
+    let shifted = costs_shifted a.infos a.its_infos a.callables a.other a.root a.its_root costs a.has a.alike.modules a.rewritten (omega (arith, count, its_count, no_fewer)) (subst (λ t. AreCostsOf t costs) a.tree_is are) in
+    let own : AreCostsOf (tree_of a.its_infos a.other a.its_root) (costs_for (tree_of a.infos a.callables a.root) costs (tree_of a.its_infos a.other a.its_root)) =
+    subst (λ n. AreCostsOf (tree_of a.its_infos a.other a.its_root) (with_modules n (length a.its_infos - length a.infos) costs)) (sym (root_module a.infos a.callables a.root)) shifted in
     subst (λ t. AreCostsOf s.tree (costs_for t costs s.tree)) (sym a.tree_is)
-    (subst (λ t. AreCostsOf t (costs_for (tree_of a.infos a.wired a.root) costs t)) (sym a.its_tree_is) own)
+    (subst (λ t. AreCostsOf t (costs_for (tree_of a.infos a.callables a.root) costs t)) (sym a.its_tree_is) own)
 
 -- none of the ways to write a program has fewer modules
 

@@ -9,7 +9,7 @@ use Rattle.p3l_skel.specs.declared.tree.ModuleInfo.{ModuleInfo}
 use Rattle.p3l_skel.specs.Tree.{nesting}
 use Rattle.p3l_skel.specs.Tree as tree_specs
 use Rattle.p3l_skel.specs.Lawful.{IsLawfulTree}
-use Rattle.p3l_check.specs.declared.wired.Wired.{Wired}
+use Rattle.p3l_check.specs.declared.callables.Callable.{Callable}
 use Rattle.p3l_check.specs.Wiring.{no_module, module_at}
 use Rattle.p3l_check.specs.Unfolding.{tree_of}
 use Rattle.p3l_check.specs.Refusing.{is_nested_within}
@@ -22,8 +22,8 @@ use Rattle.p3l_check.specs.Places.{defines}
 use Rattle.p3l_check.specs.Entry.{Checked, none_checked, info_of, defined_as, before_in, checked_entry, checked_entries}
 use Rattle.p3l_check.specs.Skeleton.{skeleton_of}
 use Rattle.p3l_check.specs.Resolving.{ResolvedTree, main_name, main_place, root_of, limits_rule, whole, resolved}
-use Rattle.p3l_check.specs.Wired.{AreWired}
-use Rattle.p3l_check.proofs.Sound.{program-wired}
+use Rattle.p3l_check.specs.Callables.{AreCallables}
+use Rattle.p3l_check.proofs.Sound.{program-callables}
 use Rattle.p3l_check.proofs.Numbers.{number-below}
 use Rattle.p3l_rewrite.specs.Meant.{rescue_at}
 use Rattle.p3l_rewrite.specs.Trees.{HasRoot}
@@ -42,37 +42,37 @@ pub record IsFirst (checked all : Checked) (m : ModuleTree) (back : List EntryTr
   pub rescues : rescue_in m.kind m.at.pos checked.constants m.clauses ≡ Ok rescue
   pub entries : checked_entries checked (defined m ∷ back) ≡ Ok all
   pub rest : checked_entries next back ≡ Ok all
-  pub even : length next.modules.wired ≡ length next.modules.infos
-  pub number : number_of all.modules m.at.name ≡ Some (length checked.modules.wired)
-  pub form : (module_at all.modules.wired (length checked.modules.wired)).form ≡ skeleton.form
-  pub calls : (module_at all.modules.wired (length checked.modules.wired)).calls ≡ skeleton.calls
-  pub rescue_is : rescue_at all.modules.infos (length checked.modules.wired) ≡ rescue
-  pub there : length checked.modules.wired < length all.modules.wired
-  pub one_more : length next.modules.wired ≡ length checked.modules.wired + 1
+  pub even : length next.modules.callables ≡ length next.modules.infos
+  pub number : number_of all.modules m.at.name ≡ Some (length checked.modules.callables)
+  pub form : (module_at all.modules.callables (length checked.modules.callables)).form ≡ skeleton.form
+  pub calls : (module_at all.modules.callables (length checked.modules.callables)).calls ≡ skeleton.calls
+  pub rescue_is : rescue_at all.modules.infos (length checked.modules.callables) ≡ rescue
+  pub there : length checked.modules.callables < length all.modules.callables
+  pub one_more : length next.modules.callables ≡ length checked.modules.callables + 1
 
 -- a number stays
 pub number_stays : (checked all : Checked) (entries : List EntryTree) (name : List ℕ) (n : ℕ) → checked_entries checked entries ≡ Ok all → number_of checked.modules name ≡ Some n → number_of all.modules name ≡ Some n
 number_stays checked all entries name n e is =
     let a = adds checked all entries e in
-    subst (λ (l : List ModuleInfo). number_of (record { infos = l; ports = []; wired = [] }) name ≡ Some n) (sym a.infos_are) (number_kept name 0 checked.modules.infos a.infos n is)
+    subst (λ (l : List ModuleInfo). number_of (record { infos = l; ports = []; callables = [] }) name ≡ Some n) (sym a.infos_are) (number_kept name 0 checked.modules.infos a.infos n is)
 
-pub first_of_them : (checked all : Checked) (m : ModuleTree) (back : List EntryTree) → length checked.modules.wired ≡ length checked.modules.infos → checked_entries checked (defined m ∷ back) ≡ Ok all → IsFirst checked all m back
+pub first_of_them : (checked all : Checked) (m : ModuleTree) (back : List EntryTree) → length checked.modules.callables ≡ length checked.modules.infos → checked_entries checked (defined m ∷ back) ≡ Ok all → IsFirst checked all m back
 first_of_them checked all m back even e =
     let ahead = defines (defined m ∷ back) in
     let g = given_of (checked_entry checked ahead (defined m)) (λ next. checked_entries next back) all e in
     let acc : IsAccepted checked g.value ahead m = accepted checked g.value ahead m g.is in
     let a = adds g.value all back g.then_is in
-    let w : Wired = (defined_as (info_of m acc.rescue) acc.ports acc.skeleton).wired in
-    let wired : all.modules.wired ≡ checked.modules.wired ++ w ∷ a.wired =
-    a.wired_are ∙ ap (λ l. l ++ a.wired) acc.wired_are ∙ append_assoc checked.modules.wired (w ∷ []) a.wired in
+    let w : Callable = (defined_as (info_of m acc.rescue) acc.ports acc.skeleton).callables in
+    let callables : all.modules.callables ≡ checked.modules.callables ++ w ∷ a.callables =
+    a.callables_are ∙ ap (λ l. l ++ a.callables) acc.callables_are ∙ append_assoc checked.modules.callables (w ∷ []) a.callables in
     let infos : all.modules.infos ≡ checked.modules.infos ++ info_of m acc.rescue ∷ a.infos =
     a.infos_are ∙ ap (λ l. l ++ a.infos) acc.infos_are ∙ append_assoc checked.modules.infos (info_of m acc.rescue ∷ []) a.infos in
-    let at : module_at all.modules.wired (length checked.modules.wired) ≡ w =
-    ap (λ l. module_at l (length checked.modules.wired)) wired ∙ get_or-append_seam checked.modules.wired w a.wired no_module in
-    let long : length all.modules.wired ≡ length checked.modules.wired + length (w ∷ a.wired) = ap (length {A = Wired}) wired ∙ length-append checked.modules.wired (w ∷ a.wired) in
-    let more : length g.value.modules.wired ≡ length checked.modules.wired + 1 = ap (length {A = Wired}) acc.wired_are ∙ length-append checked.modules.wired (w ∷ []) in
+    let at : module_at all.modules.callables (length checked.modules.callables) ≡ w =
+    ap (λ l. module_at l (length checked.modules.callables)) callables ∙ get_or-append_seam checked.modules.callables w a.callables no_module in
+    let long : length all.modules.callables ≡ length checked.modules.callables + length (w ∷ a.callables) = ap (length {A = Callable}) callables ∙ length-append checked.modules.callables (w ∷ a.callables) in
+    let more : length g.value.modules.callables ≡ length checked.modules.callables + 1 = ap (length {A = Callable}) acc.callables_are ∙ length-append checked.modules.callables (w ∷ []) in
     let named : length g.value.modules.infos ≡ length checked.modules.infos + 1 = ap (length {A = ModuleInfo}) acc.infos_are ∙ length-append checked.modules.infos (info_of m acc.rescue ∷ []) in
-    let count : 0 + length checked.modules.infos ≡ length checked.modules.wired = omega (arith, even) in
+    let count : 0 + length checked.modules.infos ≡ length checked.modules.callables = omega (arith, even) in
     record {
       next = g.value;
       is_ahead = ahead;
@@ -85,10 +85,10 @@ first_of_them checked all m back even e =
       rest = g.then_is;
       even = more ∙ ap (λ n. n + 1) even ∙ sym named;
       number =
-          subst (λ (l : List ModuleInfo). number_of (record { infos = l; ports = []; wired = [] }) m.at.name ≡ Some (length checked.modules.wired)) (sym infos)
+          subst (λ (l : List ModuleInfo). number_of (record { infos = l; ports = []; callables = [] }) m.at.name ≡ Some (length checked.modules.callables)) (sym infos)
           (number_new m.at.name 0 checked.modules.infos a.infos (info_of m acc.rescue) refl acc.fresh ∙ ap Some count);
-      form = ap (λ (x : Wired). x.form) at;
-      calls = ap (λ (x : Wired). x.calls) at;
+      form = ap (λ (x : Callable). x.form) at;
+      calls = ap (λ (x : Callable). x.calls) at;
       rescue_is =
           ap (λ n. rescue_at all.modules.infos n) even ∙ ap (λ l. rescue_at l (length checked.modules.infos)) infos
           ∙ ap (λ (i : ModuleInfo). i.rescue) (get_or-append_seam checked.modules.infos (info_of m acc.rescue) a.infos tree_specs.no_module);
@@ -102,8 +102,8 @@ pub record IsWhole (program : ProgramTree) (r : ResolvedTree) : Type 0 where
   pub root : ℕ
   pub entries : checked_entries none_checked program.entries ≡ Ok all
   pub number : number_of all.modules main_name ≡ Some root
-  pub nested : is_nested_within all.modules.wired nesting root ≡ true
-  pub is : r ≡ record { tree = tree_of all.modules.infos all.modules.wired root; seqs = all.seqs }
+  pub nested : is_nested_within all.modules.callables nesting root ≡ true
+  pub is : r ≡ record { tree = tree_of all.modules.infos all.modules.callables root; seqs = all.seqs }
 
 pub whole_of : (program : ProgramTree) (r : ResolvedTree) → resolved program ≡ Ok r → IsWhole program r
 whole_of program r e =
@@ -115,7 +115,7 @@ whole_of program r e =
       root = h.value;
       entries = g.is;
       number = some_number (number_of g.value.modules main_name) _ h.value h.is;
-      nested = kept-true (is_nested_within g.value.modules.wired nesting h.value) TooDeep (main_place program.end program.entries) i.value (first_of-first _ _ i.value i.is);
+      nested = kept-true (is_nested_within g.value.modules.callables nesting h.value) TooDeep (main_place program.end program.entries) i.value (first_of-first _ _ i.value i.is);
       is = sym (ok_same _ r i.then_is);
     }
 
@@ -124,13 +124,13 @@ below_of : (o : Option ℕ) (n k : ℕ) → o ≡ Some k → IfSome o (λ j. j <
 below_of None n k e h = absurd cc
 below_of (Some j) n k e h = let same : j ≡ k = cc in subst (λ i. i < n) same h
 
-pub has_tree : (program : ProgramTree) (r : ResolvedTree) (w : IsWhole program r) → IsLawfulTree r.tree → HasRoot w.all.modules.infos w.all.modules.wired w.root
+pub has_tree : (program : ProgramTree) (r : ResolvedTree) (w : IsWhole program r) → IsLawfulTree r.tree → HasRoot w.all.modules.infos w.all.modules.callables w.root
 has_tree program r w lawful =
-    let are : AreWired w.all.modules.infos w.all.modules.wired = program-wired program.entries w.all w.entries in
-    let fair : IsLawfulTree (tree_of w.all.modules.infos w.all.modules.wired w.root) = subst (λ (x : ResolvedTree). IsLawfulTree x.tree) w.is lawful in
+    let are : AreCallables w.all.modules.infos w.all.modules.callables = program-callables program.entries w.all w.entries in
+    let fair : IsLawfulTree (tree_of w.all.modules.infos w.all.modules.callables w.root) = subst (λ (x : ResolvedTree). IsLawfulTree x.tree) w.is lawful in
     record {
       wiring = record { count = are.count; few = fair.few_modules; rescues = fair.rescues; each = are.each };
-      there = below_of (number_of w.all.modules main_name) (length w.all.modules.wired) w.root w.number (number-below main_name w.all.modules.infos (length w.all.modules.wired) are.count);
+      there = below_of (number_of w.all.modules main_name) (length w.all.modules.callables) w.root w.number (number-below main_name w.all.modules.infos (length w.all.modules.callables) are.count);
       nested = w.nested;
     }
 

@@ -1,4 +1,4 @@
--- What is written in front of other symbols, and can be written in front of any.
+-- Symbols that stand in front of others, and can be written in front of any that can be written.
 use Rattle.std.proofs.Common.{List, [], ◌∷◌, map, Bool, true, false, Option, Some, None}
 use Rattle.p3l_ast.specs.declared.port.Num.{Num}
 use Rattle.p3l_ast.specs.declared.port.Port.{Port}
@@ -79,7 +79,7 @@ interface_front f is g os k l =
 pub ports_front : (ins outs : List Port) → IsFront (spell_interface spell_port ins spell_port outs)
 ports_front ins outs = interface_front spell_port ins spell_port outs port_front port_front
 
--- what stands behind the name of a module that is called
+-- the symbols behind the name of a called module are a front
 pub arguments_front : (c : Call) → IsFront (spell_interface spell_arg c.ins spell_out c.outs)
 arguments_front c = interface_front spell_arg c.ins spell_out c.outs arg_front out_front
 

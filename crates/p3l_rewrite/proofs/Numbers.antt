@@ -62,7 +62,7 @@ chosen (Some info) xs ys n most few below = by info.kind (below info refl)
     by module_kinds.Seq low = get_left xs ys n (omega (arith, few, low))
     by _ low = refl
 
--- what belongs to a module, where there are more behind
+-- a module's item is the same with more modules behind
 pub item_left : {A : Type 0} (infos more : List ModuleInfo) (xs ys : List A) (m : ℕ) → m < length infos → length xs ≡ seqs_before infos (length infos) → item_of (infos ++ more) (xs ++ ys) m ≡ item_of infos xs m
 item_left infos more xs ys m low count =
     ap (λ o. if_seq o (slice_get (xs ++ ys) (seqs_before (infos ++ more) m))) (get_left infos more m low)

@@ -1,4 +1,4 @@
--- What stands around `main`, after other entries.
+-- The entries around `main`, with other entries put before them.
 use Rattle.std.specs.Prelude.{List, ◌++◌}
 use Rattle.p3l_ast.specs.Tree.{EntryTree}
 use Rattle.p3l_rewrite.specs.Candidates.{Around}

@@ -1,4 +1,4 @@
--- Whether a program serves in another's place, by its tree.
+-- Programs that serve in another's place, decided by their trees.
 use Rattle.std.proofs.Common.{◌≡◌, ℕ, Option, Some, None, sym, ap, ◌∙◌, subst}
 use Rattle.p3l_ast.specs.Tree.{ProgramTree}
 use Rattle.p3l_skel.specs.declared.tree.Tree.{Tree}

@@ -1,4 +1,4 @@
--- What stands around `main`, without where it lies in memory.
+-- The trees of `main` and of the entries before and after it, without their places in memory.
 use Rattle.std.specs.Prelude.{map}
 use Rattle.std.specs.Borrow.{Bor}
 use Rattle.p3l_ast.specs.declared.module.Module.{Module}

@@ -8,7 +8,7 @@ use Rattle.p3l_skel.specs.declared.tree.ModuleInfo.{ModuleInfo}
 use Rattle.p3l_skel.specs.Tree.{node_at}
 use Rattle.p3l_skel.specs.Item.{meaning}
 use Rattle.p3l_skel.specs.Lawful.{IsLawfulTree}
-use Rattle.p3l_check.specs.declared.wired.Wired.{Wired}
+use Rattle.p3l_check.specs.declared.callables.Callable.{Callable}
 use Rattle.p3l_check.specs.Unfolding.{tree_of}
 use Rattle.p3l_check.specs.Resolving.{ResolvedTree, main_name, resolved}
 use Rattle.p3l_compile.specs.Leaves.{body_leaf}
@@ -71,24 +71,24 @@ pub record IsRewrittenProgram (program other : ProgramTree) : Type 0 where
   pub main_is : IsMainPipe program front cs
   pub is : IsFarmedProgram front cs other ⊎ IsFusedProgram front cs other
 
--- what the trees of two programs are, by the modules of each: the second's root is the first's written
+-- two programs' trees are those of their modules: the second's root is the first's written
 -- otherwise, and the modules before the first's root are the first modules of both
 pub record AreRewritten (r s : ResolvedTree) : Type 0 where
   pub infos : List ModuleInfo
   pub its_infos : List ModuleInfo
-  pub wired : List Wired
-  pub other : List Wired
+  pub callables : List Callable
+  pub other : List Callable
   pub root : ℕ
   pub its_root : ℕ
-  pub tree_is : r.tree ≡ tree_of infos wired root
+  pub tree_is : r.tree ≡ tree_of infos callables root
   pub its_tree_is : s.tree ≡ tree_of its_infos other its_root
-  pub has : HasRoot infos wired root
+  pub has : HasRoot infos callables root
   pub its : HasRoot its_infos other its_root
-  pub alike : AreAlike root infos its_infos wired other (body_leaf r.tree r.seqs) (body_leaf s.tree s.seqs)
+  pub alike : AreAlike root infos its_infos callables other (body_leaf r.tree r.seqs) (body_leaf s.tree s.seqs)
   pub stay : (k : ℕ) → k < root → slice_get its_infos k ≡ slice_get infos k
-  pub rewritten : IsRewritten wired root its_infos other its_root
+  pub rewritten : IsRewritten callables root its_infos other its_root
 
--- where both keep the rules, the trees are what the rewriting says
+-- if both keep the rules, their trees are rewritten as the programs are
 abbrev pub RewrittenProgramsResolve : Type 0
 RewrittenProgramsResolve =
     (program other : ProgramTree) (r s : ResolvedTree) →
@@ -104,7 +104,7 @@ HaveOneMeaning r s =
 abbrev pub ModulesStay : ResolvedTree → ResolvedTree → Type 0
 ModulesStay r s = (k : ℕ) → k < (node_at r.tree 0).«module» → slice_get s.tree.modules k ≡ slice_get r.tree.modules k
 
--- where both keep the rules, they mean the same of all items, and the modules before `main` keep their numbers
+-- if both keep the rules, they have one meaning, and the modules before `main` keep their numbers
 abbrev pub RewrittenProgramsMean : Type 0
 RewrittenProgramsMean =
     (program other : ProgramTree) (r s : ResolvedTree) →

@@ -7,7 +7,7 @@ use Rattle.p3l_grammar.specs.Grammar.{Spells}
 use Rattle.p3l_print.specs.Program.{HasText}
 use Rattle.p3l_rewrite.specs.Candidates.{others}
 
--- where some text spells the program, each of them has a text too
+-- if some text spells the program, each of the others has a text too
 abbrev pub OthersHaveTexts : Type 0
 OthersHaveTexts =
     (text : List ℕ) (program : ProgramTree) (tree : Tree) → Spells text program → AllByRecursion HasText (others program tree)

@@ -1,5 +1,5 @@
 //! Programs rewritten for a lesser service time, as copies: the sequential stages of `main`, where it
-//! is a pipe, each in a farm, or all of them in one process of which `main` is a farm.
+//! is a pipe, each in a farm, or all of them in one process, with `main` a farm of it.
 #![tactic(auto)]
 
 pub mod body;

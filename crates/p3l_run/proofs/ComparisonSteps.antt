@@ -7,7 +7,8 @@ use Rattle.p3l_base.specs.declared.outcome.Outcome.{Outcome}
 use Rattle.p3l_firing.specs.declared.net.Net.{Net}
 use Rattle.p3l_skel.specs.declared.tree.Tree.{Tree}
 use Rattle.p3l_skel.specs.Tree.{node_at}
-use Rattle.p3l_firing.specs.Carried.{HaveInWords}
+use Rattle.p3l_firing.specs.NetInvariants.{HaveInWords}
+use Rattle.p3l_io.specs.Change.{Observation, change}
 use Rattle.p3l_firing.specs.Fire.{can_fire}
 use Rattle.p3l_net.specs.Machine.{Fires, Seen, can_step, state_of}
 use Rattle.p3l_firing.specs.Nodes.{Leaf}
@@ -30,7 +31,7 @@ use Rattle.p3l_trace.specs.declared.trace.Traced.{Traced}
 use Rattle.p3l_trace.specs.Agreement.{AgreeFrom, AgreesIn, AgreesWith, AllAgree, IsCounted, picks_of}
 use Rattle.p3l_run.specs.declared.comparison.Comparison.{Comparison}
 use Rattle.p3l_run.specs.Retraced.{AgreesOn, DiffersOn, IsRequestedBy, one_waits, picks_to, sent_before_last}
-use Rattle.p3l_run.specs.Comparison.{AwaitsLine, HasPassed, IsAt, Outside, Passes, Stands, Steps, StepsIf, Walks, outside, started}
+use Rattle.p3l_run.specs.Comparison.{AwaitsLine, HasPassed, IsAt, Passes, Stands, Steps, StepsIf, Walks, started}
 
 no_end : (e : Ending) → ◌≡◌ {A = Option Ending} None (Some e) → ⊥
 no_end e h = cc
@@ -53,7 +54,7 @@ all_picks : (traced : Traced) (number : ℕ) → number ≡ length traced.lines 
 all_picks traced number is = ap picks_of (take_all (number - 1) traced.lines (omega arith))
 
 module _ (n : Network) where
-  -- where one item waits for the last of some picks, unless the stream has ended, items were requested before these picks
+  -- items were requested before some picks if one item waits for the last of them, unless the stream has ended
   request_last : (items : List (List ℤ)) (picks : List ℕ) (p given : ℕ) (close : Option Ending) → given ≡ (course_under n items picks).state.sent + one_waits close → IsRequestedBy n items (picks ++ p ∷ []) given close
   request_last items picks p given close is = by picks (is ∙ ap (λ ps. (course_under n items ps).state.sent + one_waits close) (sym (picks_front picks p)))
     where
@@ -61,7 +62,7 @@ module _ (n : Network) where
       by [] so = so
       by (q ∷ ps) so = so
 
-  -- what holds of the tree and the net of a machine that runs the network
+  -- a fact of the tree and the net of a machine that runs the network holds of the network's
   at_network : (m : Seen) → Runs n m → (P : Tree → Net → Type 0) → P m.tree m.net → P n.tree n.net
   at_network m runs P p = subst (λ t. P t n.net) runs.tree (subst (λ k. P m.tree k) runs.net p)
 
@@ -100,7 +101,7 @@ module _ (n : Network) where
   still_empty m m' close [] offers request e ended empty = ap (λ (k : Seen). k.inbox) offers ∙ empty
   still_empty m m' close (item ∷ more) offers request e ended empty = absurd (no_end e (sym (request (λ h. cc)) ∙ ended))
 
-  -- where nothing has fired no item was sent
+  -- before the first firing no item was sent
   none_sent : n.start ≡ fresh → (items : List (List ℤ)) → (begun_with n items).sent + length (begun_with n items).unsent ≡ length items
   unfolding first_state
   none_sent fresh_is items = ap (λ s. (state_from s n.tree n.net items).sent + length (state_from s n.tree n.net items).unsent) fresh_is ∙ zero-add (length items)
@@ -138,7 +139,7 @@ module _ (n : Network) where
         by (Some e) None filled empty = refl
         by (Some e) (Some item) filled empty = absurd (let z = empty e refl in cc)
 
-    -- where all was sent and nothing comes, no firing leaves an item that waits
+    -- once all was sent and nothing comes, no firing leaves an item that waits
     pub stays_empty : (m' : Seen) (outcomes' : List Outcome) (p : ℕ) → Follows m' outcomes' [] (picked n.tree n.leaf n.net at_last p) → m.inbox ≡ None → m'.inbox ≡ None
     unfolding with_rest state_of
     stays_empty m' outcomes' p follows none =
@@ -150,26 +151,26 @@ module _ (n : Network) where
         by None left = refl
         by (Some item) left = absurd (let z = left in cc)
 
-  module _ (before : Outside) where
+  module _ (first : Observation (List ℕ)) where
     -- nothing was requested and no line passed
-    pub walks_first : Laws n → n.start ≡ fresh → most_from n.start n.firings most_of_input < 2 ^ 63 → HasGiven (width_of n) (stream.started (width_of n) input_limit) [] [] → (width : ℕ) → width ≡ width_of n → (w : Comparison) → w ≡ started n.tree n.net width → Walks n before before [] w
+    pub walks_first : Laws n → n.start ≡ fresh → most_from n.start n.firings most_of_input < 2 ^ 63 → HasGiven (width_of n) (stream.started (width_of n) input_limit) [] [] → (width : ℕ) → width ≡ width_of n → (w : Comparison) → w ≡ started n.tree n.net width → Walks n (change first first) [] w
     unfolding after_picks AgreeFrom
     walks_first laws fresh_is fits given width wide w is =
-        subst (Walks n before before []) (sym is) (subst (λ k. Walks n before before [] (started n.tree n.net k)) (sym wide) (record {
+        subst (Walks n (change first first) []) (sym is) (subst (λ k. Walks n (change first first) [] (started n.tree n.net k)) (sym wide) (record {
           passed = record {
             laws = laws;
             fresh_is = fresh_is;
             fits = fits;
             items = [];
             outcomes = [];
-            gives = gives_first (width_of n) before.rest before.faults (stream.started (width_of n) input_limit) given refl;
+            gives = gives_first (width_of n) first (stream.started (width_of n) input_limit) given refl;
             stands = record { runs = record { tree = refl; net = refl }; wide = tt; at = λ later may. record { follows = subst (λ s. Follows (beginning s n.tree n.net) [] later (course_from (begun_with n later))) fresh_is (laws.starts later); agree = tt } };
             empty = λ e ends. refl;
           };
           request = λ later may. (refl, refl);
         }))
 
-    module _ (now : Outside) (walked : List TraceLine) (w : Comparison) (d : HasPassed n before now walked w) where
+    module _ (now : Observation (List ℕ)) (walked : List TraceLine) (w : Comparison) (d : HasPassed n (change first now) walked w) where
       same_width : (node_at w.machine.tree 0).ins ≡ width_of n
       same_width = ap (λ t. (node_at t 0).ins) d.stands.runs.tree
 
@@ -202,10 +203,10 @@ module _ (n : Network) where
           by (Some x) is = still_empty w.machine m w.close more offers request x is (d.empty x is)
 
       -- the machine was fed
-      pub fed : (m : Seen) (s : stream.Seen) (left : Option (List ℕ)) (faults : ℕ) (close : Option Ending) → Feeds (node_at w.machine.tree 0).ins w.machine m w.stream s now.rest left now.faults faults w.close close →
-          AwaitsLine n before (outside left faults) walked (record w { machine = m; stream = s; close = close })
-      fed m s left faults close feeds =
-          let f : Feeds (width_of n) w.machine m w.stream s now.rest left now.faults faults w.close close = subst (λ k. Feeds k w.machine m w.stream s now.rest left now.faults faults w.close close) same_width feeds in
+      pub fed : (m : Seen) (s : stream.Seen) (after : Observation (List ℕ)) (close : Option Ending) → Feeds (node_at w.machine.tree 0).ins w.machine m w.stream s (change now after) w.close close →
+          AwaitsLine n (change first after) walked (record w { machine = m; stream = s; close = close })
+      fed m s after close feeds =
+          let f : Feeds (width_of n) w.machine m w.stream s (change now after) w.close close = subst (λ k. Feeds k w.machine m w.stream s (change now after) w.close close) same_width feeds in
           let stands : Stands n m (d.items ++ f.more) close d.outcomes walked = stands_fed d.laws w.machine m d.items w.close close d.outcomes walked d.stands f.kept f.more f.offers f.wide f.request in
           let empty : (e : Ending) → close ≡ Some e → m.inbox ≡ None = fed_empty m close f.more f.offers f.request f.empty in
           record {
@@ -215,7 +216,7 @@ module _ (n : Network) where
               fits = d.fits;
               items = d.items ++ f.more;
               outcomes = d.outcomes;
-              gives = f.gives before.rest before.faults d.items d.gives;
+              gives = f.gives first d.items d.gives;
               stands = stands;
               empty = empty;
             };
@@ -223,12 +224,12 @@ module _ (n : Network) where
             waits = waits_so d.laws d.fresh_is m (d.items ++ f.more) close d.outcomes walked stands f.filled empty;
           }
 
-    module _ (now : Outside) (walked : List TraceLine) (w : Comparison) (walks : Walks n before now walked w) where
-      abbrev so : HasPassed n before now walked w
+    module _ (now : Observation (List ℕ)) (walked : List TraceLine) (w : Comparison) (walks : Walks n (change first now) walked w) where
+      abbrev so : HasPassed n (change first now) walked w
       so = walks.passed
 
       -- the trace is one of a run
-      pub agrees_on : (traced : Traced) → traced.lines ≡ walked → IsCounted traced → AgreesOn n traced before.rest now.rest before.faults now.faults w.close
+      pub agrees_on : (traced : Traced) → traced.lines ≡ walked → IsCounted traced → AgreesOn n traced (change first now) w.close
       agrees_on traced all counted = record {
         stream = w.stream;
         items = so.items;
@@ -238,7 +239,7 @@ module _ (n : Network) where
       }
 
       -- or its counts are not those of its lines
-      pub miscounts_on : (traced : Traced) (number : ℕ) → traced.lines ≡ walked → (IsCounted traced → ⊥) → number ≡ length traced.lines + 2 → DiffersOn n traced before.rest now.rest before.faults now.faults number
+      pub miscounts_on : (traced : Traced) (number : ℕ) → traced.lines ≡ walked → (IsCounted traced → ⊥) → number ≡ length traced.lines + 2 → DiffersOn n traced (change first now) number
       miscounts_on traced number all other is = (
         w.close,
         record {
@@ -250,8 +251,8 @@ module _ (n : Network) where
         },
       )
 
-    module _ (now : Outside) (walked : List TraceLine) (w : Comparison) (a : AwaitsLine n before now walked w) (line : TraceLine) where
-      abbrev d : HasPassed n before now walked w
+    module _ (now : Observation (List ℕ)) (walked : List TraceLine) (w : Comparison) (a : AwaitsLine n (change first now) walked w) (line : TraceLine) where
+      abbrev d : HasPassed n (change first now) walked w
       d = a.passed
 
       abbrev course : List (List ℤ) → Course
@@ -274,7 +275,7 @@ module _ (n : Network) where
           (a.waits ∙ ap (λ k. k + one_waits w.close) (ap (λ x. x.sent) (d.stands.at later may).follows.state)))
 
       -- the line differs
-      pub differs_on : (traced : Traced) (after : List TraceLine) (number : ℕ) → traced.lines ≡ walked ++ line ∷ after → (AgreesWith w.machine line → ⊥) → number ≡ length walked + 2 → DiffersOn n traced before.rest now.rest before.faults now.faults number
+      pub differs_on : (traced : Traced) (after : List TraceLine) (number : ℕ) → traced.lines ≡ walked ++ line ∷ after → (AgreesWith w.machine line → ⊥) → number ≡ length walked + 2 → DiffersOn n traced (change first now) number
       differs_on traced after number are other is = (
         w.close,
         record {
@@ -303,7 +304,7 @@ module _ (n : Network) where
         one_more later = ap (course_under n (d.items ++ later)) (picks_more walked line) ∙ d.laws.one_more _ (picks_of walked) line.pick
 
         walks_on : (m : Seen) (handed : Option Outcome) → Runs n m
-            → ((later : List (List ℤ)) → MayCome n w.close later → Follows m (d.outcomes ++ option_to_list handed) later (picked w.machine.tree n.leaf w.machine.net (course later) line.pick)) → Walks n before now (walked ++ line ∷ []) (record w { machine = m })
+            → ((later : List (List ℤ)) → MayCome n w.close later → Follows m (d.outcomes ++ option_to_list handed) later (picked w.machine.tree n.leaf w.machine.net (course later) line.pick)) → Walks n (change first now) (walked ++ line ∷ []) (record w { machine = m })
         walks_on m handed runs follows = record {
           passed = record {
             laws = d.laws;
@@ -331,25 +332,25 @@ module _ (n : Network) where
             follows_on later may =
                 at_network w.machine d.stands.runs (λ t k. Follows m (d.outcomes ++ option_to_list handed) later (picked t n.leaf k (course later) line.pick)) (follows later may)
 
-        fired : (m : Seen) (handed : Option Outcome) → can_step w.machine line.pick ≡ true → Fires n.leaf w.machine m line.pick handed → Walks n before now (walked ++ line ∷ []) (record w { machine = m })
+        fired : (m : Seen) (handed : Option Outcome) → can_step w.machine line.pick ≡ true → Fires n.leaf w.machine m line.pick handed → Walks n (change first now) (walked ++ line ∷ []) (record w { machine = m })
         fired m handed can fires =
             walks_on m handed (record { tree = fires.tree ∙ d.stands.runs.tree; net = fires.net ∙ d.stands.runs.net })
             (λ later may. d.laws.fires w.machine m d.outcomes later (course later) line.pick handed (d.stands.at later may).follows (filled later may) can fires)
 
-        idle : can_step w.machine line.pick ≡ false → Walks n before now (walked ++ line ∷ []) w
+        idle : can_step w.machine line.pick ≡ false → Walks n (change first now) (walked ++ line ∷ []) w
         idle cannot =
             walks_on w.machine None d.stands.runs
             (λ later may.
             subst (λ o. Follows w.machine o later (picked w.machine.tree n.leaf w.machine.net (course later) line.pick)) (sym (append-nil d.outcomes))
             (d.laws.idles w.machine d.outcomes later (course later) line.pick (d.stands.at later may).follows (filled later may) cannot))
 
-        pub stepped : (leaf : Leaf) → n.leaf ≡ leaf → (new : Comparison) → Steps leaf line.pick w new → Walks n before now (walked ++ line ∷ []) new
+        pub stepped : (leaf : Leaf) → n.leaf ≡ leaf → (new : Comparison) → Steps leaf line.pick w new → Walks n (change first now) (walked ++ line ∷ []) new
         stepped leaf leaf_is new steps = by (can_step w.machine line.pick) refl steps
           where
-            by : (b : Bool) → can_step w.machine line.pick ≡ b → StepsIf b leaf line.pick w new → Walks n before now (walked ++ line ∷ []) new
+            by : (b : Bool) → can_step w.machine line.pick ≡ b → StepsIf b leaf line.pick w new → Walks n (change first now) (walked ++ line ∷ []) new
             by true can step =
-                subst (Walks n before now (walked ++ line ∷ [])) (sym step.2) (fired new.machine step.0 can (subst (λ l. Fires l w.machine new.machine line.pick step.0) (sym leaf_is) step.1))
-            by false cannot same = subst (Walks n before now (walked ++ line ∷ [])) (sym same) (idle cannot)
+                subst (Walks n (change first now) (walked ++ line ∷ [])) (sym step.2) (fired new.machine step.0 can (subst (λ l. Fires l w.machine new.machine line.pick step.0) (sym leaf_is) step.1))
+            by false cannot same = subst (Walks n (change first now) (walked ++ line ∷ [])) (sym same) (idle cannot)
 
 next : (i : ℕ) → i + 1 ≡ suc i
 next i = omega arith
@@ -363,7 +364,7 @@ lines_here xs i d low =
     sym (take-append-drop (i + 1) xs) ∙ ap (λ t. t ++ drop (i + 1) xs) (lines_longer xs i d low) ∙ append_assoc (take i xs) (get_or xs i d ∷ []) (drop (i + 1) xs)
 
 -- a trace whose lines are gone over, of which the first `passed` were passed
-module _ (n : Network) (before now : Outside) (traced : Traced) (lines : List TraceLine) (same : lines ≡ traced.lines) (passed : ℕ) (w : Comparison) where
+module _ (n : Network) (first now : Observation (List ℕ)) (traced : Traced) (lines : List TraceLine) (same : lines ≡ traced.lines) (passed : ℕ) (w : Comparison) where
   abbrev front : List TraceLine
   front = take passed traced.lines
 
@@ -378,23 +379,23 @@ module _ (n : Network) (before now : Outside) (traced : Traced) (lines : List Tr
     line_is : get_or traced.lines passed d ≡ line
     line_is = ap (λ l. get_or l passed d) (sym same)
 
-    pub line_passed : (agrees : Bool) → agrees ≡ true → Passes n before now front line w agrees → Walks n before now (take (passed + 1) traced.lines) w
+    pub line_passed : (agrees : Bool) → agrees ≡ true → Passes n (change first now) front line w agrees → Walks n (change first now) (take (passed + 1) traced.lines) w
     line_passed agrees is passes =
-        subst (λ l. Walks n before now l w) (sym (lines_longer traced.lines passed d there ∙ ap (λ l. front ++ l ∷ []) line_is)) (subst (Passes n before now front line w) is passes)
+        subst (λ l. Walks n (change first now) l w) (sym (lines_longer traced.lines passed d there ∙ ap (λ l. front ++ l ∷ []) line_is)) (subst (Passes n (change first now) front line w) is passes)
 
-    pub line_differs : (agrees : Bool) → agrees ≡ false → Passes n before now front line w agrees → (number : ℕ) → number ≡ passed + 2 → DiffersOn n traced before.rest now.rest before.faults now.faults number
+    pub line_differs : (agrees : Bool) → agrees ≡ false → Passes n (change first now) front line w agrees → (number : ℕ) → number ≡ passed + 2 → DiffersOn n traced (change first now) number
     line_differs agrees is passes number counts =
-        let differs = subst (Passes n before now front line w) is passes in
-        differs_on n before now front w differs.0 line traced (drop (passed + 1) traced.lines) number (lines_here traced.lines passed d there ∙ ap (λ l. front ++ l ∷ drop (passed + 1) traced.lines) line_is) differs.1
+        let differs = subst (Passes n (change first now) front line w) is passes in
+        differs_on n first now front w differs.0 line traced (drop (passed + 1) traced.lines) number (lines_here traced.lines passed d there ∙ ap (λ l. front ++ l ∷ drop (passed + 1) traced.lines) line_is) differs.1
         (let size = length-take-le passed traced.lines (let t = there in omega arith) in omega arith)
 
   -- it has no more lines
-  module _ (past : length lines ≤ passed) (walks : Walks n before now front w) where
+  module _ (past : length lines ≤ passed) (walks : Walks n (change first now) front w) where
     all : traced.lines ≡ front
     all = sym (take_all passed traced.lines (subst (λ l. length l ≤ passed) same past))
 
-    pub lines_agree : IsCounted traced → AgreesOn n traced before.rest now.rest before.faults now.faults w.close
-    lines_agree = agrees_on n before now front w walks traced all
+    pub lines_agree : IsCounted traced → AgreesOn n traced (change first now) w.close
+    lines_agree = agrees_on n first now front w walks traced all
 
-    pub counts_differ : passed ≤ length lines → (IsCounted traced → ⊥) → (number : ℕ) → number ≡ passed + 2 → DiffersOn n traced before.rest now.rest before.faults now.faults number
-    counts_differ most other number counts = miscounts_on n before now front w walks traced number all other (let size = ap length same in omega arith)
+    pub counts_differ : passed ≤ length lines → (IsCounted traced → ⊥) → (number : ℕ) → number ≡ passed + 2 → DiffersOn n traced (change first now) number
+    counts_differ most other number counts = miscounts_on n first now front w walks traced number all other (let size = ap length same in omega arith)

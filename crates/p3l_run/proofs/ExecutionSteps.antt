@@ -8,7 +8,8 @@ use Rattle.p3l_firing.specs.declared.process.ProcKind.{ProcKind}
 use Rattle.p3l_firing.specs.Nodes.{Leaf}
 use Rattle.p3l_skel.specs.declared.tree.Tree.{Tree}
 use Rattle.p3l_skel.specs.Tree.{node_at}
-use Rattle.p3l_firing.specs.Carried.{HaveInWords}
+use Rattle.p3l_firing.specs.NetInvariants.{HaveInWords}
+use Rattle.p3l_io.specs.Change.{HasSameFaults, Observation, change}
 use Rattle.p3l_net.specs.Machine as machine
 use Rattle.p3l_firing.specs.Run.{Course}
 use Rattle.p3l_firing.specs.State.{first_state, with_rest}
@@ -34,8 +35,8 @@ use Rattle.p3l_run.specs.declared.fault.RunFault.TheVariants as fault
 use Rattle.p3l_run.specs.declared.keeping.Keeping.{Keeping}
 use Rattle.p3l_run.specs.declared.keeping.Keeping.TheVariants as keep
 use Rattle.p3l_run.specs.declared.run.Ran.{Ran}
-use Rattle.p3l_run.specs.declared.write.Report.{Report}
-use Rattle.p3l_run.specs.Execution.{AwaitsPick, Ends, Executes, GoesOn, HasFired, IsFinish, IsInRange, IsOver, Job, Outside, Picks, after_idle, begun_on, kept_with, left_at, outside, stats_at}
+use Rattle.p3l_run.specs.declared.write.Emitted.{Emitted}
+use Rattle.p3l_run.specs.Execution.{AwaitsPick, Ends, Executes, GoesOn, HasFired, IsFinish, IsInRange, IsOver, Job, Picks, after_idle, begun_on, kept_with, left_at, stats_at}
 use Rattle.p3l_run.specs.Feed.{Feeds, FeedsInVain, closed_so, input_limit, most_of_input}
 use Rattle.p3l_run.specs.Keeping.{kept_by}
 use Rattle.p3l_run.specs.Laws.{Laws}
@@ -43,6 +44,7 @@ use Rattle.p3l_run.specs.Network.{Network, begun_with, course_of, course_under, 
 use Rattle.p3l_run.specs.Run.{MayCome, MayEnd, end_of, finish_of}
 use Rattle.p3l_run.specs.Start.{Start, beginning, fresh, item_number, most_from, saved, state_from, uncounted}
 use Rattle.p3l_run.specs.Steps.{Stands, left_of}
+use Rattle.p3l_run.specs.Streams.{Streams, streams}
 use Rattle.p3l_run.specs.Sum.{sum_after}
 use Rattle.p3l_run.specs.Trap.{trap_after, trap_of}
 use Rattle.p3l_run.specs.Write.{HasBegun, HasPut, WriteCause}
@@ -70,11 +72,11 @@ kept_more keeping kept walked p kind is = ap (kept_with p kind) is ∙ by keepin
     by keep.Lines = refl
     by keep.Nothing = refl
 
--- what a pick led to, where it was made, and where none was left
-pub made : (job : Job) (now : Outside) (old new : Execution) (going : Bool) → going ≡ true → GoesOn job now old new going → Executes job now new × (left_at new < left_at old)
+-- the result of a pick that was made, and of one that was not left
+pub made : (job : Job) (now : Streams) (old new : Execution) (going : Bool) → going ≡ true → GoesOn job now old new going → Executes job now new × (left_at new < left_at old)
 made job now old new going is goes = subst (GoesOn job now old new) is goes
 
-pub none_made : (job : Job) (now : Outside) (old new : Execution) (going : Bool) → going ≡ false → GoesOn job now old new going → AwaitsPick job now new × IsOver new
+pub none_made : (job : Job) (now : Streams) (old new : Execution) (going : Bool) → going ≡ false → GoesOn job now old new going → AwaitsPick job now new × IsOver new
 none_made job now old new going is goes = subst (GoesOn job now old new) is goes
 
 module _ (job : Job) where
@@ -88,9 +90,9 @@ module _ (job : Job) where
       stream = stream.started (width_of n) input_limit;
       items = [];
       closed = None;
-      gives = gives_first (width_of n) job.before.rest job.before.read_faults (stream.started (width_of n) input_limit) given refl;
-      begun = begun_whole job.before.taken job.before.taken [] _ _ (put_nothing job.before.taken) refl;
-      emits = λ later may. begun_whole job.before.taken job.before.taken [] _ _ (put_nothing job.before.taken) refl;
+      gives = gives_first (width_of n) job.before.input (stream.started (width_of n) input_limit) given refl;
+      begun = begun_whole (change job.before.output job.before.output) [] _ _ (put_nothing job.before.output) refl;
+      emits = λ later may. begun_whole (change job.before.output job.before.output) [] _ _ (put_nothing job.before.output) refl;
     };
     output = refl;
   }
@@ -109,16 +111,16 @@ module _ (job : Job) where
         items = [];
         outcomes = [];
         walked = [];
-        gives = gives_first (width_of n) job.before.rest job.before.read_faults (stream.started (width_of n) input_limit) given refl;
+        gives = gives_first (width_of n) job.before.input (stream.started (width_of n) input_limit) given refl;
         stands = steps.stands_first n laws job.schedule m begins named;
         trap_is = refl;
         sum_is = refl;
-        put = put_nothing job.before.taken;
+        put = put_nothing job.before.output;
         kept_is = refl;
-        quiet = refl;
+        same_faults = refl;
       }))
 
-  module _ (now : Outside) (e : Execution) (d : Executes job now e) where
+  module _ (now : Streams) (e : Execution) (d : Executes job now e) where
     pub same_width : (node_at e.machine.tree 0).ins ≡ width_of n
     same_width = ap (λ t. (node_at t 0).ins) d.stands.runs.tree
 
@@ -153,7 +155,7 @@ module _ (job : Job) where
     pub number_fits : e.earlier + e.machine.emitted < 2 ^ 64
     number_fits = (let a = d.few_earlier in let b = d.stands.few in let c = few_fired in omega arith)
 
-    -- memory was wanting
+    -- memory ran out
     unfoldable pub ends_early : Ends job now (Err fault.NoMemory)
     ends_early = record {
       ends = record {
@@ -161,19 +163,19 @@ module _ (job : Job) where
         items = d.items;
         closed = closed_so e.close;
         gives = d.gives;
-        begun = steps.begun_by (meaning_of n d.items) d.outcomes job.before.taken now.taken (steps.begins_all n d.laws job.schedule e.machine e.picker d.items e.close d.outcomes e.idle d.walked d.stands) d.put;
+        begun = steps.begun_by (meaning_of n d.items) d.outcomes (change job.before.output now.output) (steps.begins_all n d.laws job.schedule e.machine e.picker d.items e.close d.outcomes e.idle d.walked d.stands) d.put;
         emits = λ later may.
-            steps.begun_by (course_of n job.schedule (d.items ++ later)).state.emitted d.outcomes job.before.taken now.taken
+            steps.begun_by (course_of n job.schedule (d.items ++ later)).state.emitted d.outcomes (change job.before.output now.output)
             (steps.begins_emitted n d.laws job.schedule e.machine e.picker d.items e.close d.outcomes e.idle d.walked d.stands later (steps.may_come n e.close later may)) d.put;
       };
-      output = d.quiet;
+      output = d.same_faults;
     }
 
     -- the machine was fed
-    pub fed : (m : machine.Seen) (s : stream.Seen) (left : Option (List ℕ)) (after : ℕ) (close : Option Ending) → Feeds (node_at e.machine.tree 0).ins e.machine m e.stream s now.rest left now.read_faults after e.close close →
-        AwaitsPick job (outside left after now.taken now.write_faults) (record e { machine = m; stream = s; close = close }) × (left_at (record e { machine = m; stream = s; close = close }) ≡ left_at e)
-    fed m s left after close feeds =
-        let f : Feeds (width_of n) e.machine m e.stream s now.rest left now.read_faults after e.close close = subst (λ k. Feeds k e.machine m e.stream s now.rest left now.read_faults after e.close close) same_width feeds in (
+    pub fed : (m : machine.Seen) (s : stream.Seen) (input : Observation (List ℕ)) (close : Option Ending) → Feeds (node_at e.machine.tree 0).ins e.machine m e.stream s (change now.input input) e.close close →
+        AwaitsPick job (streams input now.output) (record e { machine = m; stream = s; close = close }) × (left_at (record e { machine = m; stream = s; close = close }) ≡ left_at e)
+    fed m s input close feeds =
+        let f : Feeds (width_of n) e.machine m e.stream s (change now.input input) e.close close = subst (λ k. Feeds k e.machine m e.stream s (change now.input input) e.close close) same_width feeds in (
           record {
             executes = record {
               laws = d.laws;
@@ -185,23 +187,23 @@ module _ (job : Job) where
               items = d.items ++ f.more;
               outcomes = d.outcomes;
               walked = d.walked;
-              gives = f.gives job.before.rest job.before.read_faults d.items d.gives;
+              gives = f.gives job.before.input d.items d.gives;
               stands = steps.stands_fed n d.laws job.schedule e.machine m e.picker d.items e.close close d.outcomes e.idle d.walked d.stands f.kept f.more f.offers f.wide f.request;
               trap_is = d.trap_is;
               sum_is = d.sum_is;
               put = d.put;
               kept_is = d.kept_is;
-              quiet = d.quiet;
+              same_faults = d.same_faults;
             };
             filled = f.filled;
           },
           ap (λ k. left_of (2 ^ 63) k e.picker) (fed_fired e.machine m f.more f.offers),
         )
 
-    -- memory was wanting for that
-    module _ (s : stream.Seen) (left : Option (List ℕ)) (after : ℕ) (vain : FeedsInVain (node_at e.machine.tree 0).ins e.stream s now.rest left now.read_faults after e.close) where
-      abbrev pub fed_in_vain : FeedsInVain (width_of n) e.stream s now.rest left now.read_faults after e.close
-      fed_in_vain = subst (λ k. FeedsInVain k e.stream s now.rest left now.read_faults after e.close) same_width vain
+    -- memory ran out for that
+    module _ (s : stream.Seen) (input : Observation (List ℕ)) (vain : FeedsInVain (node_at e.machine.tree 0).ins e.stream s (change now.input input) e.close) where
+      abbrev pub fed_in_vain : FeedsInVain (width_of n) e.stream s (change now.input input) e.close
+      fed_in_vain = subst (λ k. FeedsInVain k e.stream s (change now.input input) e.close) same_width vain
 
       pub unended_then : (x : Ending) → e.close ≡ Some x → ⊥
       unended_then x is = no_end (sym fed_in_vain.request ∙ is)
@@ -215,40 +217,40 @@ module _ (job : Job) where
         none = λ x is. absurd (unended_then x is);
       }
 
-      unfoldable pub ends_unfed : Ends job (outside left after now.taken now.write_faults) (Err fault.NoMemory)
+      unfoldable pub ends_unfed : Ends job (streams input now.output) (Err fault.NoMemory)
       ends_unfed = record {
         ends = record {
           stream = s;
           items = d.items ++ fed_in_vain.more;
           closed = fed_in_vain.closed;
-          gives = fed_in_vain.gives job.before.rest job.before.read_faults d.items d.gives;
+          gives = fed_in_vain.gives job.before.input d.items d.gives;
           begun =
-              steps.begun_by (meaning_of n (d.items ++ fed_in_vain.more)) d.outcomes job.before.taken now.taken
+              steps.begun_by (meaning_of n (d.items ++ fed_in_vain.more)) d.outcomes (change job.before.output now.output)
               (steps.begins_given n d.laws job.schedule e.machine e.picker d.items e.close d.outcomes e.idle d.walked d.stands fed_in_vain.more
               (record { wide = fed_in_vain.wide; none = λ x is. absurd (unended_then x is) })) d.put;
           emits = λ later on.
-              subst (λ i. HasBegun job.before.taken now.taken (text_of (course_of n job.schedule i).state.emitted)) (sym (append_assoc d.items fed_in_vain.more later))
-              (steps.begun_by (course_of n job.schedule (d.items ++ (fed_in_vain.more ++ later))).state.emitted d.outcomes job.before.taken now.taken
+              subst (λ i. HasBegun (change job.before.output now.output) (text_of (course_of n job.schedule i).state.emitted)) (sym (append_assoc d.items fed_in_vain.more later))
+              (steps.begun_by (course_of n job.schedule (d.items ++ (fed_in_vain.more ++ later))).state.emitted d.outcomes (change job.before.output now.output)
               (steps.begins_emitted n d.laws job.schedule e.machine e.picker d.items e.close d.outcomes e.idle d.walked d.stands (fed_in_vain.more ++ later) (comes_then later on.wide)) d.put);
         };
-        output = d.quiet;
+        output = d.same_faults;
       }
 
-  module _ (now : Outside) (e : Execution) (a : AwaitsPick job now e) where
+  module _ (now : Streams) (e : Execution) (a : AwaitsPick job now e) where
     abbrev d : Executes job now e
     d = a.executes
 
     pub filled : (later : List (List ℤ)) → MayCome n e.close later → HasFilledInbox e.machine later
     filled = steps.filled_after n e.close e.machine a.filled
 
-    -- where no process can fire and no trap was emitted the stream is ended
-    pub must_end : ready_list e.machine ≡ [] → IsNone e.report.trap → IsSome e.close
-    must_end none calm = by_trap e.report.trap e.close calm d.trap_is (steps.must_end n d.laws job.schedule e.machine e.picker d.items e.close d.outcomes e.idle d.walked d.stands filled none)
+    -- the stream is ended if no process can fire and no trap was emitted
+    pub must_end : ready_list e.machine ≡ [] → IsNone e.emitted.trap → IsSome e.close
+    must_end none untrapped = by_trap e.emitted.trap e.close untrapped d.trap_is (steps.must_end n d.laws job.schedule e.machine e.picker d.items e.close d.outcomes e.idle d.walked d.stands filled none)
       where
         by_trap : (t : Option Trap) (c : Option Ending) → IsNone t → t ≡ trap_of d.outcomes → (trap_of d.outcomes ≡ None → c ≢ None) → IsSome c
-        by_trap None None calm is ends = absurd (ends (sym is) refl)
-        by_trap None (Some x) calm is ends = refl
-        by_trap (Some t) c calm is ends = absurd (let z : true ≡ false = calm in cc)
+        by_trap None None untrapped is ends = absurd (ends (sym is) refl)
+        by_trap None (Some x) untrapped is ends = refl
+        by_trap (Some t) c untrapped is ends = absurd (let z : true ≡ false = untrapped in cc)
 
     -- one at most of the items that were given was not sent
     pub one_waits_at_most : (begun_with n d.items).sent + length d.items ≤ e.machine.sent + 1
@@ -269,7 +271,7 @@ module _ (job : Job) where
         wide_plain items wide = subst (HaveInWords n.tree) (sym (append-nil items)) wide
 
     -- no pick is left
-    module _ (over : IsOver e) (named : Tree) (named_is : named ≡ n.named) (ran : Ran) (finishes_so : IsFinish named e ran.finish) (stats_are : ran.stats ≡ stats_at e) (lines_are : ran.lines ≡ e.kept) (sum_is : ran.sum ≡ e.report.sum) where
+    module _ (over : IsOver e) (named : Tree) (named_is : named ≡ n.named) (ran : Ran) (finishes_so : IsFinish named e ran.finish) (stats_are : ran.stats ≡ stats_at e) (lines_are : ran.lines ≡ e.kept) (sum_is : ran.sum ≡ e.emitted.sum) where
       finish_is : IsFinish n.named e ran.finish
       finish_is = subst (λ t. IsFinish t e ran.finish) named_is finishes_so
 
@@ -294,8 +296,8 @@ module _ (job : Job) where
           by [] is =
               let count : e.machine.emitted ≡ length d.outcomes = (d.stands.at later may).follows.emitted.count in
               finish_is.stuck is x ends
-              ∙ ap (λ k. end_of n.named e.report.trap k x) (sym (d.numbered e.machine.emitted))
-              ∙ ap (λ k. end_of n.named e.report.trap (item_number n.start k) x) count
+              ∙ ap (λ k. end_of n.named e.emitted.trap k x) (sym (d.numbered e.machine.emitted))
+              ∙ ap (λ k. end_of n.named e.emitted.trap (item_number n.start k) x) count
               ∙ ap (λ t. end_of n.named t (item_number n.start (length d.outcomes)) x) d.trap_is
               ∙ ap (λ o. end_of n.named (trap_of o) (item_number n.start (length o)) x) (sym (emitted later may))
               ∙ sym (cond-false _ _ _ (goes later may ∙ ap is_some is))
@@ -315,7 +317,7 @@ module _ (job : Job) where
           by_close (Some t) (Some y) must ends = absurd (let z = sym (ends y refl) ∙ is in cc)
 
           by : (ready : List ℕ) → ready_list e.machine ≡ ready → e.close ≡ Some x
-          by [] none = by_close e.report.trap e.close (must_end none) (finish_is.stuck none)
+          by [] none = by_close e.emitted.trap e.close (must_end none) (finish_is.stuck none)
           by (p ∷ ps) some = absurd (let z = sym (finish_is.stopped (λ none. (let y : [] ≡ p ∷ ps = sym none ∙ some in cc))) ∙ is in cc)
 
       pub numbers : ran.stats ≡ record { items = e.machine.sent; fired = e.machine.fired; idle = e.idle; bound = e.machine.sent * n.firings }
@@ -339,7 +341,7 @@ module _ (job : Job) where
           kept = lines_are ∙ d.kept_is;
           summed = sum_is ∙ d.sum_is;
         };
-        output = d.quiet;
+        output = d.same_faults;
       }
 
     -- a process was picked
@@ -356,7 +358,7 @@ module _ (job : Job) where
       way_is : way ≡ after_pick (size_of n) e.picker p
       way_is = ap (λ k. after_pick (length k.procs) e.picker p) d.stands.runs.net
 
-      -- which can't fire
+      -- the process can't fire
       pub passed : can_step e'.machine p ≡ false → (e'' : Execution) → e'' ≡ after_idle p e' → GoesOn job now e e'' true
       passed cant e'' is = let cannot : can_step e.machine p ≡ false = subst (λ m. can_step m p ≡ false) same_machine cant in subst (λ k. GoesOn job now e k true) (sym (is ∙ ap (after_idle p) picked.after)) (
         record {
@@ -377,12 +379,12 @@ module _ (job : Job) where
           sum_is = d.sum_is;
           put = d.put;
           kept_is = kept_more job.keeping e.kept d.walked p None d.kept_is;
-          quiet = d.quiet;
+          same_faults = d.same_faults;
         },
         subst (λ k. left_of (2 ^ 63) e.machine.fired k < left_at e) (sym way_is) (steps.fewer_idle (2 ^ 63) e.machine.fired (can_step e.machine) (size_of n) e.picker p from cannot),
       )
 
-      -- which fired
+      -- the process fired
       module _ (may : IsTrue (can_step e'.machine p)) (leaf : Leaf) (leaf_is : n.leaf ≡ leaf) (e'' : Execution) (handed : Option Outcome) (fired : HasFired leaf p e' e'' handed) where
         can : IsTrue (can_step e.machine p)
         can = subst (λ m. IsTrue (can_step m p)) same_machine may
@@ -396,30 +398,30 @@ module _ (job : Job) where
         led : Stands n job.schedule e''.machine (after_pick (size_of n) e.picker p) d.items e.close (d.outcomes ++ option_to_list handed) e.idle (d.walked ++ record { pick = p; kind = Some fired.kind } ∷ [])
         led = steps.stands_fired n d.laws job.schedule e.machine e.picker d.items e.close d.outcomes e.idle d.walked d.stands filled p (Some fired.kind) picked.pick picked.some e''.machine handed can fires picked.there fired.kind kind_is refl
 
-        -- memory was wanting, or writing failed, for the line of what it handed out
-        pub ends_unwritten : (taken : Option (List ℕ)) (after : ℕ) (failed : RunFault) → HasBegun now.taken taken (text_of (option_to_list handed)) → WriteCause {T = Report} now.write_faults after (Err failed) →
-            Ends job (outside now.rest now.read_faults taken after) (Err failed)
-        ends_unwritten taken after failed begun cause = record {
+        -- memory ran out, or writing failed, for the line of the outcome that it handed out
+        pub ends_unwritten : (output : Observation (List ℕ)) (failed : RunFault) → HasBegun (change now.output output) (text_of (option_to_list handed)) → WriteCause {T = Emitted} (change now.output output) (Err failed) →
+            Ends job (streams now.input output) (Err failed)
+        ends_unwritten output failed begun cause = record {
           ends = record {
             stream = e.stream;
             items = d.items;
             closed = closed_so e.close;
             gives = d.gives;
             begun =
-                steps.begun_last (meaning_of n d.items) d.outcomes handed job.before.taken now.taken taken
+                steps.begun_last (meaning_of n d.items) d.outcomes handed job.before.output now.output output
                 (steps.led_begins n d.laws job.schedule e.machine e.picker d.items e.close d.outcomes e.idle d.walked d.stands filled p None picked.pick picked.some e''.machine handed can fires) d.put begun;
             emits = λ later on.
-                steps.begun_last (course_of n job.schedule (d.items ++ later)).state.emitted d.outcomes handed job.before.taken now.taken taken
+                steps.begun_last (course_of n job.schedule (d.items ++ later)).state.emitted d.outcomes handed job.before.output now.output output
                 (steps.begins_emitted n d.laws job.schedule e''.machine (after_pick (size_of n) e.picker p) d.items e.close (d.outcomes ++ option_to_list handed) e.idle (d.walked ++ record { pick = p; kind = Some fired.kind } ∷ []) led later (steps.may_come n e.close later on))
                 d.put begun;
           };
-          output = cause_on Ran Report job.before.write_faults now.write_faults after failed d.quiet cause;
+          output = cause_on Ran Emitted job.before.output now.output output failed d.same_faults cause;
         }
 
         -- its line was written
-        pub went_on : (report : Report) (taken : Option (List ℕ)) (after : ℕ) → report.trap ≡ fold trap_after e''.report.trap (option_to_list handed) → report.sum ≡ fold sum_after e''.report.sum (option_to_list handed) →
-            HasPut now.taken taken (text_of (option_to_list handed)) → after ≡ now.write_faults → GoesOn job (outside now.rest now.read_faults taken after) e (record e'' { report = report }) true
-        went_on report taken after trap_is sum_is put quiet = subst (λ k. GoesOn job (outside now.rest now.read_faults taken after) e (record k { report = report }) true) (sym rest_is) (
+        pub went_on : (emitted : Emitted) (output : Observation (List ℕ)) → emitted.trap ≡ fold trap_after e''.emitted.trap (option_to_list handed) → emitted.sum ≡ fold sum_after e''.emitted.sum (option_to_list handed) →
+            HasPut (change now.output output) (text_of (option_to_list handed)) → HasSameFaults (change now.output output) → GoesOn job (streams now.input output) e (record e'' { emitted = emitted }) true
+        went_on emitted output trap_is sum_is put same_faults = subst (λ k. GoesOn job (streams now.input output) e (record k { emitted = emitted }) true) (sym rest_is) (
           record {
             laws = d.laws;
             firings_is = d.firings_is;
@@ -433,13 +435,13 @@ module _ (job : Job) where
             gives = d.gives;
             stands =
                 subst (λ k. Stands n job.schedule e''.machine k d.items e.close (d.outcomes ++ option_to_list handed) e.idle (d.walked ++ record { pick = p; kind = Some fired.kind } ∷ [])) (sym way_is) led;
-            trap_is = trap_is ∙ ap (λ t. fold trap_after t.trap (option_to_list handed)) same_report ∙ steps.trap_more e.report.trap d.outcomes (option_to_list handed) d.trap_is;
-            sum_is = sum_is ∙ ap (λ t. fold sum_after t.sum (option_to_list handed)) same_report ∙ steps.sum_more e.report.sum d.outcomes (option_to_list handed) d.sum_is;
+            trap_is = trap_is ∙ ap (λ t. fold trap_after t.trap (option_to_list handed)) same_emitted ∙ steps.trap_more e.emitted.trap d.outcomes (option_to_list handed) d.trap_is;
+            sum_is = sum_is ∙ ap (λ t. fold sum_after t.sum (option_to_list handed)) same_emitted ∙ steps.sum_more e.emitted.sum d.outcomes (option_to_list handed) d.sum_is;
             put =
-                subst (λ t. HasPut job.before.taken taken t) (sym (text_more d.outcomes (option_to_list handed)))
-                (put_more job.before.taken now.taken taken (text_of d.outcomes) (text_of (option_to_list handed)) d.put put);
+                subst (HasPut (change job.before.output output)) (sym (text_more d.outcomes (option_to_list handed)))
+                (put_more job.before.output now.output output (text_of d.outcomes) (text_of (option_to_list handed)) d.put put);
             kept_is = kept_more job.keeping e.kept d.walked p (Some fired.kind) d.kept_is;
-            quiet = quiet ∙ d.quiet;
+            same_faults = same_faults ∙ d.same_faults;
           },
           fewer,
         )
@@ -447,8 +449,8 @@ module _ (job : Job) where
             rest_is : e'' ≡ record e { machine = e''.machine; picker = way; kept = kept_with p (Some fired.kind) e.kept }
             rest_is = fired.rest ∙ ap (λ (k : Execution). record k { machine = e''.machine; kept = kept_with p (Some fired.kind) k.kept }) picked.after
 
-            same_report : e''.report ≡ e.report
-            same_report = ap (λ k. k.report) rest_is
+            same_emitted : e''.emitted ≡ e.emitted
+            same_emitted = ap (λ k. k.emitted) rest_is
 
             fewer : left_of (2 ^ 63) e''.machine.fired way < left_at e
             fewer =

@@ -1,4 +1,4 @@
--- What a firing leaves: outcomes that were emitted stay, and no item comes to those not yet sent.
+-- A firing keeps the outcomes that were emitted, and adds no item to those not yet sent.
 use Rattle.std.proofs.Common.{◌≡◌, ℕ, ◌+◌, Bool, true, false, List, [], ◌∷◌, ◌++◌, Option, Some, None, cond, refl, sym, ap, ◌∙◌, append-nil, append_assoc}
 use Rattle.std.specs.Prelude.{slice_get}
 use Rattle.p3l_base.specs.declared.outcome.Outcome.{Outcome}
@@ -14,7 +14,7 @@ use Rattle.p3l_firing.specs.Nodes.{Leaf}
 use Rattle.p3l_firing.specs.Outcomes.{IsPrefixOf}
 use Rattle.p3l_firing.specs.Run.{Course, after_picks, picked}
 use Rattle.p3l_firing.specs.Process.{in_of}
-use Rattle.p3l_firing.specs.State.{Own, State, front, gathering, holding, pop, push, set_own}
+use Rattle.p3l_firing.specs.State.{LocalState, State, front, gathering, holding, pop, push, set_own}
 use Rattle.p3l_firing.specs.kinds.{row_fire}
 use Rattle.p3l_firing.specs.kinds.Source as source
 use Rattle.p3l_firing.specs.kinds.Sink as sink
@@ -42,23 +42,23 @@ either : (b : Bool) (s t u : State) → Leaves s t → Leaves s u → Leaves s (
 either true s t u first second = first
 either false s t u first second = second
 
-sent_leaves : (o : Option ℕ) (s : State) (p : ℕ) (own : Own) (q : Proc) → Leaves s (emit.sent_to o s p own q)
+sent_leaves : (o : Option ℕ) (s : State) (p : ℕ) (own : LocalState) (q : Proc) → Leaves s (emit.sent_to o s p own q)
 unfolding emit.sent_to set_own push pop
 sent_leaves None s p own q = same s _ refl refl
 sent_leaves (Some c) s p own q = same s _ refl refl
 
-taken_leaves : (o : Option ℕ) (s : State) (p : ℕ) (own : Own) (q : Proc) → Leaves s (collect.taken_from o s p own q)
+taken_leaves : (o : Option ℕ) (s : State) (p : ℕ) (own : LocalState) (q : Proc) → Leaves s (collect.taken_from o s p own q)
 unfolding collect.taken_from set_own push pop
 taken_leaves None s p own q = same s _ refl refl
 taken_leaves (Some c) s p own q = same s _ refl refl
 
-turn_leaves : (turn : Turn) (s : State) (p : ℕ) (own : Own) (q : Proc) (x : Token) → Leaves s (tail.take_turn turn s p own q x)
+turn_leaves : (turn : Turn) (s : State) (p : ℕ) (own : LocalState) (q : Proc) (x : Token) → Leaves s (tail.take_turn turn s p own q x)
 unfolding tail.take_turn set_own push pop
 turn_leaves (Held outcome) s p own q x = same s _ refl refl
 turn_leaves Again s p own q x = same s _ refl refl
 
 module _ (tree : Tree) (leaf : Leaf) (net : Net) where
-  row_leaves : (k : ProcKind) (s : State) (p : ℕ) (own : Own) (q : Proc) → Leaves s (row_fire k tree leaf net s p own q)
+  row_leaves : (k : ProcKind) (s : State) (p : ℕ) (own : LocalState) (q : Proc) → Leaves s (row_fire k tree leaf net s p own q)
   unfolding row_fire source.fire sink.fire run.fire emit.fire collect.fire scatter.fire scatter.element_sent gather.fire gather.whole_sent split.fire split.segment_sent fold_gather.fire fold_gather.fold_sent join.fire head.fire head.sent_round head.let_in tail.fire tail.release set_own push pop
   row_leaves kinds.Source s p own q = record { emitted = ([], append-nil s.emitted); unsent = λ none. ap rest_of none }
   row_leaves kinds.Sink s p own q = record { emitted = (_, refl); unsent = λ none. none }
@@ -75,7 +75,7 @@ module _ (tree : Tree) (leaf : Leaf) (net : Net) where
       let x : Token = front s (in_of q 0) in
       either (tail.can_release net s own q) s (tail.release s p own q) (tail.take_turn (tail.next_turn tree leaf s q) s p own q x) (same s _ refl refl) (turn_leaves (tail.next_turn tree leaf s q) s p own q x)
 
-  fire_leaves : (o : Option Proc) (s : State) (p : ℕ) (own : Own) → Leaves s (fire_of o tree leaf net s p own)
+  fire_leaves : (o : Option Proc) (s : State) (p : ℕ) (own : LocalState) → Leaves s (fire_of o tree leaf net s p own)
   unfolding fire_of
   fire_leaves None s p own = same s s refl refl
   fire_leaves (Some q) s p own = row_leaves q.kind s p own q
@@ -88,11 +88,11 @@ module _ (tree : Tree) (leaf : Leaf) (net : Net) where
       by true = fire_leaves (slice_get net.procs p) c.state p (c.state.own p)
       by false = same c.state c.state refl refl
 
-  -- what begins a beginning begins the whole
+  -- a prefix of a prefix is a prefix of the whole
   begins_on : (xs ys zs : List Outcome) → IsPrefixOf xs ys → IsPrefixOf ys zs → IsPrefixOf xs zs
   begins_on xs ys zs one two = (one.0 ++ two.0, sym (append_assoc xs one.0 two.0) ∙ ap (λ l. l ++ two.0) one.1 ∙ two.1)
 
-  -- what was emitted stays, whatever is picked after it
+  -- outcomes that were emitted stay, whatever is picked after them
   pub after_leaves : (c : Course) (picks : List ℕ) → IsPrefixOf c.state.emitted (after_picks tree leaf net c picks).state.emitted
   unfolding after_picks
   after_leaves c [] = ([], append-nil c.state.emitted)

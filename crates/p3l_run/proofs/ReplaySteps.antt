@@ -14,21 +14,23 @@ use Rattle.p3l_base.specs.declared.outcome.Trap.{Trap}
 use Rattle.p3l_firing.specs.declared.net.Chan.{Chan}
 use Rattle.p3l_firing.specs.declared.net.Net.{Net}
 use Rattle.p3l_firing.specs.Nodes.{Leaf}
-use Rattle.p3l_firing.specs.State.{Own, fresh as unused_own, own_at, first_state, with_rest}
+use Rattle.p3l_firing.specs.State.{LocalState, fresh as unused_own, own_at, first_state, with_rest}
 use Rattle.p3l_firing.specs.Token.{has_trap}
 use Rattle.p3l_skel.specs.declared.tree.Tree.{Tree}
 use Rattle.p3l_skel.specs.Item.{item, meaning, up_to_trap}
 use Rattle.p3l_skel.specs.Tree.{node_at}
-use Rattle.p3l_firing.specs.Carried.{HaveInWords}
+use Rattle.p3l_firing.specs.NetInvariants.{HaveInWords}
+use Rattle.p3l_firing.specs.Run.{Course, after_picks, course_from, picked}
+use Rattle.p3l_firing.specs.Shot.{IsCountable, saved_own}
+use Rattle.p3l_firing.specs.declared.shot.Own.{Own as SavedOwn}
+use Rattle.p3l_firing.specs.declared.shot.SavedToken.{SavedToken}
+use Rattle.p3l_firing.specs.declared.shot.Shot.{Shot}
+use Rattle.p3l_io.specs.Change.{HasSameFaults, Observation, change}
 use Rattle.p3l_net.specs.Channel.{Queue}
 use Rattle.p3l_net.specs.Machine as machine
 use Rattle.p3l_net.specs.Machine.{Fires, IsShaped, can_step, state_of}
 use Rattle.p3l_net.specs.Offered.{Follows, HasFilledInbox}
-use Rattle.p3l_firing.specs.Run.{Course, after_picks, course_from, picked}
-use Rattle.p3l_net.specs.Shot.{CanRestore, IsCountable, queues_of, restored, saved_own, shot_of}
-use Rattle.p3l_net.specs.declared.shot.Own.{Own as SavedOwn}
-use Rattle.p3l_net.specs.declared.shot.SavedToken.{SavedToken}
-use Rattle.p3l_net.specs.declared.shot.Shot.{Shot}
+use Rattle.p3l_net.specs.Shot.{CanRestore, queues_of, restored, shot_of}
 use Rattle.p3l_sched.specs.declared.schedule.Schedule.{Schedule}
 use Rattle.p3l_stream.specs.declared.items.Ending.{Ending}
 use Rattle.p3l_stream.specs.declared.items.Ending.TheVariants as ending
@@ -44,9 +46,9 @@ use Rattle.p3l_run.specs.declared.execution.Execution.{Execution}
 use Rattle.p3l_run.specs.declared.fault.RunFault.{RunFault}
 use Rattle.p3l_run.specs.declared.fault.RunFault.TheVariants as fault
 use Rattle.p3l_run.specs.declared.keeping.Keeping.{Keeping}
-use Rattle.p3l_run.specs.declared.write.Report.{Report}
+use Rattle.p3l_run.specs.declared.write.Emitted.{Emitted}
 use Rattle.p3l_run.specs.Checkpoint.{Reaches}
-use Rattle.p3l_run.specs.Execution.{HasFired, Outside, after_idle, outside, started}
+use Rattle.p3l_run.specs.Execution.{HasFired, after_idle, started}
 use Rattle.p3l_run.specs.Feed.{Feeds, FeedsInVain, Gives, Offers, closed_so, input_limit}
 use Rattle.p3l_run.specs.Laws.{Laws, Runs}
 use Rattle.p3l_run.specs.Network.{Network, begun_with, course_under, network, width_of}
@@ -55,6 +57,7 @@ use Rattle.p3l_run.specs.Requested.{IsRequestedBy, requested_for, sent_before_la
 use Rattle.p3l_run.specs.Replay.{AreAsked, Comes, Halts, IsFilled, IsReady, Opens, Replay, Replays, Saves, cut_of, replay_of}
 use Rattle.p3l_run.specs.Run.{MayEnd, end_of}
 use Rattle.p3l_run.specs.Start.{Start, item_number, outcomes_from, state_from}
+use Rattle.p3l_run.specs.Streams.{Streams, streams}
 use Rattle.p3l_run.specs.Trap.{trap_after, trap_of}
 use Rattle.p3l_run.specs.Write.{HasBegun, HasPut, WriteCause}
 use Rattle.p3l_run.proofs.FeedSteps.{gives_first}
@@ -66,7 +69,7 @@ picks_front picks p =
     let size : length (picks ++ p ∷ []) - 1 ≡ length picks = omega (arith, length-append picks (p ∷ [])) in
     ap (λ k. take k (picks ++ p ∷ [])) size ∙ take-append_seam picks (p ∷ [])
 
--- where one item waits for the last of some picks, unless the stream has ended, items were requested before these picks
+-- items were requested before some picks if one item waits for the last of them, unless the stream has ended
 pub request_last : (n : Network) (items : List (List ℤ)) (picks : List ℕ) (p given : ℕ) (close : Option Ending) → given ≡ (course_under n items picks).state.sent + requested.one_waits close → IsRequestedBy n items (picks ++ p ∷ []) given close
 request_last n items picks p given close is = by picks (is ∙ ap (λ ps. (course_under n items ps).state.sent + requested.one_waits close) (sym (picks_front picks p)))
   where
@@ -123,7 +126,7 @@ some_trap outcomes t some = by (some_after None t outcomes some)
 no_end : (e : Ending) → ◌≡◌ {A = Option Ending} None (Some e) → ⊥
 no_end e h = cc
 
--- whether there is something, as it was tested
+-- the test of an option tells if it has a value
 pub not_none : (T : Type 0) (o : Option T) (b : Bool) → b ≡ is_some o → b ≡ true → o ≢ None
 not_none T o b is true_is none = (let z : true ≡ false = sym true_is ∙ is ∙ ap is_some none in cc)
 
@@ -152,17 +155,17 @@ comes_unstarted r given = record {
     stream = stream.started (width_of r.network) input_limit;
     items = [];
     closed = None;
-    gives = gives_first (width_of r.network) r.before.rest r.before.read_faults (stream.started (width_of r.network) input_limit) given refl;
+    gives = gives_first (width_of r.network) r.before.input (stream.started (width_of r.network) input_limit) given refl;
     used = [];
     unused = r.picks;
     whole = refl;
-    emits = λ later may. begun_whole r.before.taken r.before.taken [] _ _ (put_nothing r.before.taken) refl;
+    emits = λ later may. begun_whole (change r.before.output r.before.output) [] _ _ (put_nothing r.before.output) refl;
   };
   output = refl;
 }
 
 -- nothing was requested yet, and no pick was made
-pub opens_first : (tree : Tree) (leaf : ℕ → List ℤ → Outcome) (net : Net) (firings : ℕ) (picks : List ℕ) (before : Outside) → Laws (network tree leaf net firings) → length picks < 2 ^ 63 → AllByRecursion (λ p. p < length net.procs) picks →
+pub opens_first : (tree : Tree) (leaf : ℕ → List ℤ → Outcome) (net : Net) (firings : ℕ) (picks : List ℕ) (before : Streams) → Laws (network tree leaf net firings) → length picks < 2 ^ 63 → AllByRecursion (λ p. p < length net.procs) picks →
     HasGiven (node_at tree 0).ins (stream.started (node_at tree 0).ins input_limit) [] [] →
     (width : ℕ) → width ≡ (node_at tree 0).ins → (schedule : Schedule) (keeping : Keeping) (e : Execution) → e ≡ started tree net firings width schedule keeping → Opens (replay_of (network tree leaf net firings) picks before) picks before e
 unfolding after_picks
@@ -176,7 +179,7 @@ opens_first tree leaf net firings picks before laws few named given width wide s
         named = named;
         items = [];
         outcomes = [];
-        gives = gives_first (node_at tree 0).ins before.rest before.read_faults (stream.started (node_at tree 0).ins input_limit) given refl;
+        gives = gives_first (node_at tree 0).ins before.input (stream.started (node_at tree 0).ins input_limit) given refl;
         runs = record { tree = refl; net = refl };
         wide = tt;
         follows = λ later in_words. laws.starts later;
@@ -184,8 +187,8 @@ opens_first tree leaf net firings picks before laws few named given width wide s
         filled = λ front p is later in_words. absurd (no_last front p is);
         counted = omega arith;
         trap_is = refl;
-        put = put_nothing before.taken;
-        quiet = refl;
+        put = put_nothing before.output;
+        same_faults = refl;
       };
       open_is = refl;
       asked = λ later in_words. (refl, refl);
@@ -195,11 +198,11 @@ module _ (r : Replay) where
   abbrev n : Network
   n = r.network
 
-  -- what holds of the tree and the net of a machine that runs the network
+  -- a fact of the tree and the net of a machine that runs the network holds of the network's
   at_network : (m : machine.Seen) → Runs n m → (P : Tree → Net → Type 0) → P m.tree m.net → P n.tree n.net
   at_network m runs P p = subst (λ t. P t n.net) runs.tree (subst (λ k. P m.tree k) runs.net p)
 
-  module _ (used unused : List ℕ) (now : Outside) (e : Execution) (d : Replays r used unused now e) where
+  module _ (used unused : List ℕ) (now : Streams) (e : Execution) (d : Replays r used unused now e) where
     abbrev course : List (List ℤ) → Course
     course later = course_under n (d.items ++ later) used
 
@@ -223,11 +226,11 @@ module _ (r : Replay) where
     unfolding with_rest state_of
     emitted_is later in_words = ap (λ x. x.emitted) (d.follows later in_words).state
 
-    -- what was written begins the text of all that the run emits
-    begun : (later : List (List ℤ)) → HaveInWords n.tree later → HasBegun r.before.taken now.taken (text_of (course later).state.emitted)
-    begun later in_words = begun_whole r.before.taken now.taken (text_of d.outcomes) [] _ d.put (append-nil (text_of d.outcomes) ∙ ap text_of (emitted_is later in_words))
+    -- the text that was written begins the text of all that the run emits
+    begun : (later : List (List ℤ)) → HaveInWords n.tree later → HasBegun (change r.before.output now.output) (text_of (course later).state.emitted)
+    begun later in_words = begun_whole (change r.before.output now.output) (text_of d.outcomes) [] _ d.put (append-nil (text_of d.outcomes) ∙ ap text_of (emitted_is later in_words))
 
-    -- memory was wanting
+    -- memory ran out
     pub comes_early : Comes r now (Err fault.NoMemory)
     comes_early = record {
       ends = record {
@@ -240,11 +243,11 @@ module _ (r : Replay) where
         whole = d.whole;
         emits = λ later may. begun later may.wide;
       };
-      output = d.quiet;
+      output = d.same_faults;
     }
 
     -- the machine was fed
-    module _ (m : machine.Seen) (s : stream.Seen) (left : Option (List ℕ)) (after : ℕ) (close : Option Ending) where
+    module _ (m : machine.Seen) (s : stream.Seen) (input : Observation (List ℕ)) (close : Option Ending) where
       abbrev new : Execution
       new = record e { machine = m; stream = s; close = close }
 
@@ -262,9 +265,9 @@ module _ (r : Replay) where
       runs_fed [] same = (record { tree = ap (λ k. k.tree) same ∙ d.runs.tree; net = ap (λ k. k.net) same ∙ d.runs.net }, ap (λ k. k.fired) same)
       runs_fed (item ∷ more) offers = (record { tree = ap (λ k. k.tree) offers.1 ∙ d.runs.tree; net = ap (λ k. k.net) offers.1 ∙ d.runs.net }, ap (λ k. k.fired) offers.1)
 
-      pub fed : Feeds (node_at e.machine.tree 0).ins e.machine m e.stream s now.rest left now.read_faults after e.close close → Replays r used unused (outside left after now.taken now.write_faults) new × IsFilled e new
+      pub fed : Feeds (node_at e.machine.tree 0).ins e.machine m e.stream s (change now.input input) e.close close → Replays r used unused (streams input now.output) new × IsFilled e new
       fed feeds =
-          let f : Feeds (width_of n) e.machine m e.stream s now.rest left now.read_faults after e.close close = subst (λ k. Feeds k e.machine m e.stream s now.rest left now.read_faults after e.close close) same_width feeds in (
+          let f : Feeds (width_of n) e.machine m e.stream s (change now.input input) e.close close = subst (λ k. Feeds k e.machine m e.stream s (change now.input input) e.close close) same_width feeds in (
             record {
               laws = d.laws;
               begins = d.begins;
@@ -273,7 +276,7 @@ module _ (r : Replay) where
               named = d.named;
               items = d.items ++ f.more;
               outcomes = d.outcomes;
-              gives = f.gives r.before.rest r.before.read_faults d.items d.gives;
+              gives = f.gives r.before.input d.items d.gives;
               runs = (runs_fed f.more f.offers).0;
               wide = wide_append (width_of n) d.items f.more d.wide f.wide;
               follows = follows_fed f.more f.wide f.offers;
@@ -286,29 +289,29 @@ module _ (r : Replay) where
               counted = ap (λ k. k + e.idle) (runs_fed f.more f.offers).1 ∙ d.counted;
               trap_is = d.trap_is;
               put = d.put;
-              quiet = d.quiet;
+              same_faults = d.same_faults;
             },
-            record { filled = f.filled; empty = f.empty; report_is = refl },
+            record { filled = f.filled; empty = f.empty; same_emitted = refl },
           )
 
-    -- memory was wanting for that
-    pub comes_unfed : (s : stream.Seen) (left : Option (List ℕ)) (after : ℕ) → FeedsInVain (node_at e.machine.tree 0).ins e.stream s now.rest left now.read_faults after e.close → Comes r (outside left after now.taken now.write_faults) (Err fault.NoMemory)
-    comes_unfed s left after vain =
-        let f : FeedsInVain (width_of n) e.stream s now.rest left now.read_faults after e.close = subst (λ k. FeedsInVain k e.stream s now.rest left now.read_faults after e.close) same_width vain in
+    -- memory ran out for that
+    pub comes_unfed : (s : stream.Seen) (input : Observation (List ℕ)) → FeedsInVain (node_at e.machine.tree 0).ins e.stream s (change now.input input) e.close → Comes r (streams input now.output) (Err fault.NoMemory)
+    comes_unfed s input vain =
+        let f : FeedsInVain (width_of n) e.stream s (change now.input input) e.close = subst (λ k. FeedsInVain k e.stream s (change now.input input) e.close) same_width vain in
         record {
           ends = record {
             stream = s;
             items = d.items ++ f.more;
             closed = f.closed;
-            gives = f.gives r.before.rest r.before.read_faults d.items d.gives;
+            gives = f.gives r.before.input d.items d.gives;
             used = used;
             unused = unused;
             whole = d.whole;
             emits = λ later may.
-                subst (λ i. HasBegun r.before.taken now.taken (text_of (course_under n i used).state.emitted)) (sym (append_assoc d.items f.more later))
+                subst (λ i. HasBegun (change r.before.output now.output) (text_of (course_under n i used).state.emitted)) (sym (append_assoc d.items f.more later))
                 (begun (f.more ++ later) (wide_append (width_of n) f.more later f.wide may.wide));
           };
-          output = d.quiet;
+          output = d.same_faults;
         }
 
     -- the items that were given are those that were sent, and the one in the inbox
@@ -334,11 +337,11 @@ module _ (r : Replay) where
     pub emitted_count : e.machine.emitted ≡ length d.outcomes
     emitted_count = (d.follows [] tt).emitted.count
 
-    -- where the inbox is filled, one of them waits
+    -- one of them waits if the inbox is filled
     pub waits_given : e.machine.inbox ≢ None → length d.items ≡ e.machine.sent + 1
     waits_given filled = sym items_given ∙ ap (λ k. e.machine.sent + k) (one_waits e.machine.inbox filled)
 
-    -- where it is empty, all were sent
+    -- all were sent if it is empty
     pub all_sent : e.machine.inbox ≡ None → length d.items ≡ e.machine.sent + 0
     all_sent empty = sym items_given ∙ ap (λ (o : Option (List ℤ)). e.machine.sent + length (option_to_list o)) empty
 
@@ -351,11 +354,11 @@ module _ (r : Replay) where
     requested_before p close given later in_words = request_last n (d.items ++ later) used p (length d.items) close (given ∙ ap (λ k. k + requested.one_waits close) (sent_on later in_words))
 
   -- the next pick is one of a process
-  pub there : (used unused : List ℕ) (p : ℕ) (now : Outside) (e : Execution) → Replays r used (p ∷ unused) now e → p < length e.machine.net.procs
+  pub there : (used unused : List ℕ) (p : ℕ) (now : Streams) (e : Execution) → Replays r used (p ∷ unused) now e → p < length e.machine.net.procs
   there used unused p now e d = subst (λ (k : Net). p < length k.procs) (sym d.runs.net) d.named.0
 
   -- a pick that is made
-  module _ (used unused : List ℕ) (p : ℕ) (now : Outside) (e : Execution) (d : Replays r used (p ∷ unused) now e) (ready : IsReady e) where
+  module _ (used unused : List ℕ) (p : ℕ) (now : Streams) (e : Execution) (d : Replays r used (p ∷ unused) now e) (ready : IsReady e) where
     abbrev on : List (List ℤ) → Course
     on later = course_under n (d.items ++ later) used
 
@@ -372,7 +375,7 @@ module _ (r : Replay) where
     untrapped_then : (front : List ℕ) (q : ℕ) → used ++ p ∷ [] ≡ front ++ q ∷ [] → (later : List (List ℤ)) → HaveInWords n.tree later → has_trap (course_under n (d.items ++ later) front).state.emitted ≡ false
     untrapped_then front q is later in_words =
         subst (λ ps. has_trap (course_under n (d.items ++ later) ps).state.emitted ≡ false) (same_front used front p q is)
-        (ap has_trap (sym (emitted_is used (p ∷ unused) now e d later in_words)) ∙ no_trap d.outcomes (sym d.trap_is ∙ ready.calm))
+        (ap has_trap (sym (emitted_is used (p ∷ unused) now e d later in_words)) ∙ no_trap d.outcomes (sym d.trap_is ∙ ready.untrapped))
 
     -- and an item waited
     filled_then : (front : List ℕ) (q : ℕ) → used ++ p ∷ [] ≡ front ++ q ∷ [] → (later : List (List ℤ)) → HaveInWords n.tree later → (course_under n (d.items ++ later) front).state.sent < length d.items
@@ -412,7 +415,7 @@ module _ (r : Replay) where
         counted = (let count = d.counted in let size = length-append used (p ∷ []) in omega arith);
         trap_is = d.trap_is;
         put = d.put;
-        quiet = d.quiet;
+        same_faults = d.same_faults;
       },
       ready.open_is,
       asked_then e.close ready.open_is,
@@ -432,10 +435,10 @@ module _ (r : Replay) where
       unfolding with_rest state_of
       led_emitted later in_words = ap (λ x. x.emitted) (led later in_words).state
 
-      -- memory was wanting, or writing failed, for the line of what it handed out
-      pub comes_unwritten : (taken : Option (List ℕ)) (after : ℕ) (failed : RunFault) → HasBegun now.taken taken (text_of (option_to_list handed)) → WriteCause {T = Report} now.write_faults after (Err failed) →
-          Comes r (outside now.rest now.read_faults taken after) (Err failed)
-      comes_unwritten taken after failed begins cause = record {
+      -- memory ran out, or writing failed, for the line of the outcome that it handed out
+      pub comes_unwritten : (output : Observation (List ℕ)) (failed : RunFault) → HasBegun (change now.output output) (text_of (option_to_list handed)) → WriteCause {T = Emitted} (change now.output output) (Err failed) →
+          Comes r (streams now.input output) (Err failed)
+      comes_unwritten output failed begins cause = record {
         ends = record {
           stream = e.stream;
           items = d.items;
@@ -445,16 +448,16 @@ module _ (r : Replay) where
           unused = unused;
           whole = whole_then;
           emits = λ later may.
-              subst (HasBegun r.before.taken taken) (sym (text_more d.outcomes (option_to_list handed)) ∙ ap text_of (led_emitted later may.wide))
-              (begun_more r.before.taken now.taken taken (text_of d.outcomes) (text_of (option_to_list handed)) d.put begins);
+              subst (HasBegun (change r.before.output output)) (sym (text_more d.outcomes (option_to_list handed)) ∙ ap text_of (led_emitted later may.wide))
+              (begun_more r.before.output now.output output (text_of d.outcomes) (text_of (option_to_list handed)) d.put begins);
         };
-        output = cause_on Report CheckpointEnd r.before.write_faults now.write_faults after failed d.quiet cause;
+        output = cause_on CheckpointEnd Emitted r.before.output now.output output failed d.same_faults cause;
       }
 
       -- its line was written
-      pub went_on : (report : Report) (taken : Option (List ℕ)) (after : ℕ) → report.trap ≡ fold trap_after new.report.trap (option_to_list handed) → HasPut now.taken taken (text_of (option_to_list handed)) → after ≡ now.write_faults →
-          (k : Replays r (used ++ p ∷ []) unused (outside now.rest now.read_faults taken after) (record new { report = report })) × ((record new { report = report }).close ≡ None) × AreAsked k
-      went_on report taken after trap_is put quiet = (
+      pub went_on : (emitted : Emitted) (output : Observation (List ℕ)) → emitted.trap ≡ fold trap_after new.emitted.trap (option_to_list handed) → HasPut (change now.output output) (text_of (option_to_list handed)) → HasSameFaults (change now.output output) →
+          (k : Replays r (used ++ p ∷ []) unused (streams now.input output) (record new { emitted = emitted })) × ((record new { emitted = emitted }).close ≡ None) × AreAsked k
+      went_on emitted output trap_is put same_faults = (
         record {
           laws = d.laws;
           begins = d.begins;
@@ -463,36 +466,36 @@ module _ (r : Replay) where
           named = d.named.1;
           items = d.items;
           outcomes = d.outcomes ++ option_to_list handed;
-          gives = subst (λ (k : Execution). Gives (width_of n) r.before.rest now.rest r.before.read_faults now.read_faults k.stream d.items (closed_so k.close)) (sym fired.rest) d.gives;
+          gives = subst (λ (k : Execution). Gives (width_of n) (change r.before.input now.input) k.stream d.items (closed_so k.close)) (sym fired.rest) d.gives;
           runs = record { tree = fires.tree ∙ d.runs.tree; net = fires.net ∙ d.runs.net };
           wide = d.wide;
           follows = led;
           untrapped = untrapped_then;
           filled = filled_then;
           counted = (let count = d.counted in let up = fires.fired in let idle = same_idle in let size = length-append used (p ∷ []) in omega arith);
-          trap_is = trap_is ∙ ap (λ t. fold trap_after t.trap (option_to_list handed)) same_report ∙ trap_more e.report.trap d.outcomes (option_to_list handed) d.trap_is;
-          put = subst (λ t. HasPut r.before.taken taken t) (sym (text_more d.outcomes (option_to_list handed))) (put_more r.before.taken now.taken taken (text_of d.outcomes) (text_of (option_to_list handed)) d.put put);
-          quiet = quiet ∙ d.quiet;
+          trap_is = trap_is ∙ ap (λ t. fold trap_after t.trap (option_to_list handed)) same_emitted ∙ trap_more e.emitted.trap d.outcomes (option_to_list handed) d.trap_is;
+          put = subst (HasPut (change r.before.output output)) (sym (text_more d.outcomes (option_to_list handed))) (put_more r.before.output now.output output (text_of d.outcomes) (text_of (option_to_list handed)) d.put put);
+          same_faults = same_faults ∙ d.same_faults;
         },
         ap (λ (k : Execution). k.close) fired.rest ∙ ready.open_is,
         asked_then new.close (ap (λ (k : Execution). k.close) fired.rest ∙ ready.open_is),
       )
         where
-          same_report : new.report ≡ e.report
-          same_report = ap (λ (k : Execution). k.report) fired.rest
+          same_emitted : new.emitted ≡ e.emitted
+          same_emitted = ap (λ (k : Execution). k.emitted) fired.rest
 
           same_idle : new.idle ≡ e.idle
           same_idle = ap (λ (k : Execution). k.idle) fired.rest
 
 -- a run goes no further
-module _ (r : Replay) (used unused : List ℕ) (now : Outside) (e : Execution) (d : Replays r used unused now e) where
+module _ (r : Replay) (used unused : List ℕ) (now : Streams) (e : Execution) (d : Replays r used unused now e) where
   -- while the stream isn't ended, items are requested before the picks that are made
   made_alone : e.close ≡ None → AreAsked d → (later : List (List ℤ)) → HaveInWords r.network.tree later → IsRequestedBy r.network (d.items ++ later) (requested_for e.close used unused) (length d.items) e.close
   made_alone open_is asked later in_words =
       subst (λ ps. IsRequestedBy r.network (d.items ++ later) ps (length d.items) e.close) (sym (ap (λ (o : Option Ending). requested_for o used unused) open_is)) (asked later in_words)
 
   -- since a trap was emitted
-  pub halts_trapped : e.report.trap ≢ None → e.close ≡ None → AreAsked d → Halts r now e
+  pub halts_trapped : e.emitted.trap ≢ None → e.close ≡ None → AreAsked d → Halts r now e
   halts_trapped some open_is asked = record {
     used = used;
     unused = unused;
@@ -514,7 +517,7 @@ module _ (r : Replay) (used unused : List ℕ) (now : Outside) (e : Execution) (
   }
 
 -- since the stream is ended
-pub halts_closed : (r : Replay) (used unused : List ℕ) (p : ℕ) (now : Outside) (old e : Execution) → Replays r used (p ∷ unused) now e → IsFilled old e → old.close ≡ None → e.close ≢ None → Halts r now e
+pub halts_closed : (r : Replay) (used unused : List ℕ) (p : ℕ) (now : Streams) (old e : Execution) → Replays r used (p ∷ unused) now e → IsFilled old e → old.close ≡ None → e.close ≢ None → Halts r now e
 halts_closed r used unused p now old e d f open_is ended = record {
   used = used;
   unused = p ∷ unused;
@@ -535,18 +538,18 @@ picks_longer picks i low = (let next : i + 1 ≡ suc i = omega arith in ap (λ k
 picks_left : (picks : List ℕ) (i : ℕ) → i < length picks → drop i picks ≡ get_or picks i 0 ∷ drop (i + 1) picks
 picks_left picks i low = (let next : suc i ≡ i + 1 = omega arith in drop-cons picks i 0 low ∙ ap (λ k. get_or picks i 0 ∷ drop k picks) next)
 
--- what was filled, with no trap and the stream not ended, is ready for a pick
-pub ready_then : (old new : Execution) → IsFilled old new → old.report.trap ≡ None → new.close ≡ None → IsReady new
-ready_then old e f calm open_is = record { open_is = open_is; filled = f.filled open_is; calm = ap (λ (t : Report). t.trap) f.report_is ∙ calm }
+-- an execution that was filled is ready for a pick, if there is no trap and the stream isn't ended
+pub ready_then : (old new : Execution) → IsFilled old new → old.emitted.trap ≡ None → new.close ≡ None → IsReady new
+ready_then old e f untrapped open_is = record { open_is = open_is; filled = f.filled open_is; untrapped = ap (λ (t : Emitted). t.trap) f.same_emitted ∙ untrapped }
 
 -- a run whose picks are gone over, of which this number were made
-module _ (r : Replay) (picks : List ℕ) (made : ℕ) (now : Outside) (e : Execution) (d : Replays r (take made picks) (drop made picks) now e) where
+module _ (r : Replay) (picks : List ℕ) (made : ℕ) (now : Streams) (e : Execution) (d : Replays r (take made picks) (drop made picks) now e) where
   -- it has one more
   module _ (low : made < length picks) where
     pub next_is : Replays r (take made picks) (get_or picks made 0 ∷ drop (made + 1) picks) now e
     next_is = subst (λ l. Replays r (take made picks) l now e) (picks_left picks made low) d
 
-    pub one_made : (after : Outside) (new : Execution) → (k : Replays r (take made picks ++ get_or picks made 0 ∷ []) (drop (made + 1) picks) after new) × (new.close ≡ None) × AreAsked k
+    pub one_made : (after : Streams) (new : Execution) → (k : Replays r (take made picks ++ get_or picks made 0 ∷ []) (drop (made + 1) picks) after new) × (new.close ≡ None) × AreAsked k
         → (k : Replays r (take (made + 1) picks) (drop (made + 1) picks) after new) × (new.close ≡ None) × AreAsked k
     one_made after new then = subst (λ l. (k : Replays r l (drop (made + 1) picks) after new) × (new.close ≡ None) × AreAsked k) (sym (picks_longer picks made low)) then
 
@@ -554,12 +557,12 @@ module _ (r : Replay) (picks : List ℕ) (made : ℕ) (now : Outside) (e : Execu
   pub all_made : length picks ≤ made → drop made picks ≡ []
   all_made past = drop_all made picks past
 
--- what a run that goes no further reaches
-module _ (r : Replay) (now : Outside) (e : Execution) (h : Halts r now e) where
+-- the state that a run reaches which goes no further
+module _ (r : Replay) (now : Streams) (e : Execution) (h : Halts r now e) where
   abbrev d : Replays r h.used h.unused now e
   d = h.replays
 
-  abbrev reached : Reaches r.network r.picks r.before.rest now.rest r.before.read_faults now.read_faults r.before.taken now.taken
+  abbrev reached : Reaches r.network r.picks (change r.before.input now.input) (change r.before.output now.output)
   reached = record {
     stream = e.stream;
     items = d.items;
@@ -581,8 +584,8 @@ module _ (r : Replay) (now : Outside) (e : Execution) (h : Halts r now e) where
   }
 
   -- its state was saved
-  pub ends_saved : e.report.trap ≡ None → cut_of e.close ≡ None → (saved : Checkpoint) → Saves e saved → Comes r now (Ok (end.Saved saved))
-  ends_saved calm whole saved saves = record {
+  pub ends_saved : e.emitted.trap ≡ None → cut_of e.close ≡ None → (saved : Checkpoint) → Saves e saved → Comes r now (Ok (end.Saved saved))
+  ends_saved untrapped whole saved saves = record {
     ends = record {
       reached = reached;
       shot_is = saves.shot_is;
@@ -590,10 +593,10 @@ module _ (r : Replay) (now : Outside) (e : Execution) (h : Halts r now e) where
       countable = saves.countable;
       items_are = saves.items_are ∙ items_given r h.used h.unused now e d;
       picks_are = saves.picks_are ∙ d.counted;
-      calm = no_trap d.outcomes (sym d.trap_is ∙ calm);
-      over = by e.close whole (h.over calm);
+      untrapped = no_trap d.outcomes (sym d.trap_is ∙ untrapped);
+      over = by e.close whole (h.over untrapped);
     };
-    output = d.quiet;
+    output = d.same_faults;
   }
     where
       by : (close : Option Ending) → cut_of close ≡ None → (close ≡ None → h.unused ≡ []) → (h.unused ≡ []) ⊎ (close ≡ Some ending.End)
@@ -606,15 +609,15 @@ module _ (r : Replay) (now : Outside) (e : Execution) (h : Halts r now e) where
       by (Some ending.TooLong) is over = absurd cc
 
   -- its stream ended so
-  pub ends_cut : e.report.trap ≡ None → (x : Ending) → cut_of e.close ≡ Some x → Comes r now (Ok (end.Ended (finish.Stream x)))
-  ends_cut calm x cut = record {
+  pub ends_cut : e.emitted.trap ≡ None → (x : Ending) → cut_of e.close ≡ Some x → Comes r now (Ok (end.Ended (finish.Stream x)))
+  ends_cut untrapped x cut = record {
     ends = record {
       reached = reached;
       close_is = (by e.close cut).0;
       other = (by e.close cut).1;
-      calm = no_trap d.outcomes (sym d.trap_is ∙ calm);
+      untrapped = no_trap d.outcomes (sym d.trap_is ∙ untrapped);
     };
-    output = d.quiet;
+    output = d.same_faults;
   }
     where
       by : (close : Option Ending) → cut_of close ≡ Some x → (close ≡ Some x) × (x ≢ ending.End)
@@ -627,7 +630,7 @@ module _ (r : Replay) (now : Outside) (e : Execution) (h : Halts r now e) where
       by (Some ending.TooLong) is = (is, λ same. cc)
 
   -- a trap was emitted
-  pub ends_trapped : (trap : Option Trap) → e.report.trap ≡ trap → trap ≢ None → (named : Tree) → r.network.named ≡ named → (f : RunEnd) → ((x : Ending) → MayEnd e.close x → f ≡ end_of named e.report.trap e.machine.emitted x) → Comes r now (Ok (end.Ended f))
+  pub ends_trapped : (trap : Option Trap) → e.emitted.trap ≡ trap → trap ≢ None → (named : Tree) → r.network.named ≡ named → (f : RunEnd) → ((x : Ending) → MayEnd e.close x → f ≡ end_of named e.emitted.trap e.machine.emitted x) → Comes r now (Ok (end.Ended f))
   ends_trapped None is some named named_is f ends = absurd (some refl)
   ends_trapped (Some trap) is some named named_is f ends =
       subst (λ k. Comes r now (Ok (end.Ended k))) (sym f_is) (record {
@@ -638,7 +641,7 @@ module _ (r : Replay) (now : Outside) (e : Execution) (h : Halts r now e) where
               ap (λ t. end_of r.network.named t e.machine.emitted x) (sym trap_is)
               ∙ ap (λ k. end_of r.network.named (trap_of d.outcomes) k x) (emitted_count r h.used h.unused now e d ∙ sym numbered);
         };
-        output = d.quiet;
+        output = d.same_faults;
       })
     where
       trap_is : trap_of d.outcomes ≡ Some trap
@@ -660,7 +663,7 @@ rooms_of [] lists = refl
 rooms_of (chan ∷ chans) [] = ap (λ l. chan.cap ∷ l) (rooms_of chans [])
 rooms_of (chan ∷ chans) (tokens ∷ lists) = ap (λ l. chan.cap ∷ l) (rooms_of chans lists)
 
-low_number : (owns : List Own) → All (λ (o : SavedOwn). o.number < 2 ^ 63) (map saved_own owns) → (p : ℕ) → (own_at owns p).number < 2 ^ 63
+low_number : (owns : List LocalState) → All (λ (o : SavedOwn). o.number < 2 ^ 63) (map saved_own owns) → (p : ℕ) → (own_at owns p).number < 2 ^ 63
 low_number owns low p = by (cases_lt p (length owns))
   where
     by : (p < length owns) ⊎ (length owns ≤ p) → (own_at owns p).number < 2 ^ 63
@@ -668,7 +671,7 @@ low_number owns low p = by (cases_lt p (length owns))
         let size = length-map owns saved_own in
         let found = All-get_or (λ (o : SavedOwn). o.number < 2 ^ 63) (map saved_own owns) p (saved_own unused_own) (omega arith) low in
         subst (λ (o : SavedOwn). o.number < 2 ^ 63) (get_or-map saved_own owns p unused_own) found
-    by (inr past) = subst (λ (o : Own). o.number < 2 ^ 63) (sym (get_or_past owns p unused_own past)) (omega arith)
+    by (inr past) = subst (λ (o : LocalState). o.number < 2 ^ 63) (sym (get_or_past owns p unused_own past)) (omega arith)
 
 -- a machine whose state can be restored from what was saved of it is as large as its net says
 pub shaped_by : (m : machine.Seen) (shot : Shot) → shot ≡ shot_of m → restored m.tree m.net shot ≡ record m { fired = 0 } → IsCountable shot → CanRestore m.tree m.net shot → IsShaped m
@@ -681,8 +684,8 @@ shaped_by m shot is back countable can = record {
   emitted = (let same : shot.emitted ≡ m.emitted = ap (λ (k : Shot). k.emitted) is in let low = countable.emitted in omega arith);
 }
 
--- what is saved of processes counts no more than they do
-saved_low : (owns : List Own) → ((p : ℕ) → (own_at owns p).number < 2 ^ 63) → All (λ (o : SavedOwn). o.number < 2 ^ 63) (map saved_own owns)
+-- the saved states of processes count no more than the processes
+saved_low : (owns : List LocalState) → ((p : ℕ) → (own_at owns p).number < 2 ^ 63) → All (λ (o : SavedOwn). o.number < 2 ^ 63) (map saved_own owns)
 saved_low [] low k o below = absurd (omega arith)
 saved_low (own ∷ owns) low zero o below = low 0
 saved_low (own ∷ owns) low (suc k) o below = saved_low owns (λ p. low (suc p)) k o (omega arith)
@@ -697,7 +700,7 @@ meaning_within tree leaf (words ∷ items) = by (item tree leaf 0 words) (meanin
     by (Trapped trap) rest = omega arith
 
 -- a run that goes no further counts to less than 2^63
-module _ (r : Replay) (now : Outside) (e : Execution) (h : Halts r now e) where
+module _ (r : Replay) (now : Streams) (e : Execution) (h : Halts r now e) where
   abbrev at : Replays r h.used h.unused now e
   at = h.replays
 

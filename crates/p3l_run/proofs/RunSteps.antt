@@ -19,8 +19,9 @@ use Rattle.p3l_net.specs.Machine.{HasEmitted, Seen, Fires, can_step, ready_list,
 use Rattle.p3l_net.specs.Offered.{Follows, HasFilledInbox}
 use Rattle.p3l_firing.specs.State.{with_rest}
 use Rattle.p3l_firing.specs.Run.{Course, after_picks, course_from, picked}
-use Rattle.p3l_firing.specs.Carried.{HaveInWords}
+use Rattle.p3l_firing.specs.NetInvariants.{HaveInWords}
 use Rattle.p3l_firing.specs.Outcomes.{IsPrefixOf, up_to_first_trap}
+use Rattle.p3l_io.specs.Change.{Change, Observation, change}
 use Rattle.p3l_net.specs.Shot.{restored}
 use Rattle.p3l_run.specs.declared.end.RunStats.{RunStats}
 use Rattle.p3l_sched.specs.declared.picker.Way.{Way}
@@ -64,7 +65,7 @@ sum_more sum first second e = ap (λ t. fold sum_after t second) e ∙ sym (fold
 pub nothing_comes : (n : Network) (close : Option Ending) → MayCome n close []
 nothing_comes n close = record { wide = tt; none = λ e is. refl }
 
--- what may follow a stream that is not ended by want of memory may come
+-- the items that may follow a stream which running out of memory did not end may come
 pub may_come : (n : Network) (close : Option Ending) (later : List (List ℤ)) → MayFollow n (closed_so close) later → MayCome n close later
 may_come n close later may = record { wide = may.wide; none = λ e is. may.none e (ap closed_so is) }
 
@@ -117,7 +118,7 @@ room_idle schedule can size (way.Turns cursor) p idle from cannot room = absurd 
 room_idle schedule can size (way.Draws generator) p idle from cannot room = absurd (false≢true (sym cannot ∙ from))
 room_idle schedule can size (way.Reads picks) p idle from cannot room = (let one = ap length from in omega arith)
 
--- what is left after a firing
+-- the picks that are left after a firing
 left_fired : (bound fired fired' : ℕ) (can : ℕ → Bool) (size : ℕ) (w : Way) (p : ℕ) → IsPickedFrom can size w p → fired' ≡ fired + 1 → fired + 1 ≤ bound → left_of bound fired w ≡ suc (left_of bound fired' (after_pick size w p))
 left_fired bound fired fired' can size (way.Turns cursor) p from more low = omega arith
 left_fired bound fired fired' can size (way.Draws generator) p from more low = omega arith
@@ -140,7 +141,7 @@ fewer_idle bound fired can size w p from cannot = (let e = left_idle bound fired
 pub none_before : (k : ℕ) → k ≡ 0 + k
 none_before k = omega arith
 
--- where no outcome is a trap there is one for each item
+-- there is an outcome for each item if none is a trap
 all_come : (tree : Tree) (leaf : ℕ → List ℤ → Outcome) (items : List (List ℤ)) → trap_of (meaning tree leaf items) ≡ None → length (meaning tree leaf items) ≡ length items
 all_come tree leaf [] none = refl
 all_come tree leaf (words ∷ items) none = by_first (all_come tree leaf items) (item tree leaf 0 words) none
@@ -172,7 +173,7 @@ all_follow tree leaf [] items none = all_whole tree leaf items none ∙ none_bef
 all_follow tree leaf (Value words ∷ ahead) items none = ap suc (all_follow tree leaf ahead items none) ∙ one_before (length ahead) (length items)
 all_follow tree leaf (Trapped trap ∷ ahead) items none = cc
 
--- how many outcomes are to come before those of the items
+-- the count of outcomes that are to come before those of the items
 abbrev ahead_of : Start → ℕ
 ahead_of fresh = 0
 ahead_of (saved r) = length r.ahead
@@ -186,31 +187,22 @@ none_ready : (ready : List ℕ) → is_some ready ≡ false → ready ≡ []
 none_ready [] e = refl
 none_ready (p ∷ ps) e = cc
 
-pub some_ready : (ready : List ℕ) → ready ≢ [] → is_some ready ≡ true
-some_ready [] some = absurd (some refl)
-some_ready (p ∷ ps) some = refl
-
--- what was put stays where nothing more is
-pub nothing_put : (taken : Option (List ℕ)) → HasPut taken taken []
-nothing_put None = refl
-nothing_put (Some taken) = ap Some (sym (append-nil taken))
-
 -- outcomes begin others, so the text that was written of them begins the text of those
-pub begun_by : (whole outcomes : List Outcome) (taken taken' : Option (List ℕ)) → IsPrefixOf outcomes whole → HasPut taken taken' (text_of outcomes) → HasBegun taken taken' (text_of whole)
-begun_by whole outcomes taken taken' begins put =
+pub begun_by : (whole outcomes : List Outcome) (output : Change (List ℕ)) → IsPrefixOf outcomes whole → HasPut output (text_of outcomes) → HasBegun output (text_of whole)
+begun_by whole outcomes output begins put =
     let more = text_begins outcomes whole begins in
-    begun_whole taken taken' (text_of outcomes) more.0 (text_of whole) put more.1
+    begun_whole output (text_of outcomes) more.0 (text_of whole) put more.1
 
 -- also where the text of the last outcome was only begun
-pub begun_last : (whole outcomes : List Outcome) (handed : Option Outcome) (taken mid new : Option (List ℕ)) → IsPrefixOf (outcomes ++ option_to_list handed) whole →
-    HasPut taken mid (text_of outcomes) → HasBegun mid new (text_of (option_to_list handed)) → HasBegun taken new (text_of whole)
-begun_last whole outcomes handed taken mid new begins put begun =
+pub begun_last : (whole outcomes : List Outcome) (handed : Option Outcome) (old mid new : Observation (List ℕ)) → IsPrefixOf (outcomes ++ option_to_list handed) whole →
+    HasPut (change old mid) (text_of outcomes) → HasBegun (change mid new) (text_of (option_to_list handed)) → HasBegun (change old new) (text_of whole)
+begun_last whole outcomes handed old mid new begins put begun =
     let more = text_begins (outcomes ++ option_to_list handed) whole begins in
-    begun_longer taken new (text_of outcomes ++ text_of (option_to_list handed)) more.0 (text_of whole)
-    (begun_more taken mid new (text_of outcomes) (text_of (option_to_list handed)) put begun)
+    begun_longer (change old new) (text_of outcomes ++ text_of (option_to_list handed)) more.0 (text_of whole)
+    (begun_more old mid new (text_of outcomes) (text_of (option_to_list handed)) put begun)
     (ap (λ t. t ++ more.0) (sym (text_more outcomes (option_to_list handed))) ∙ more.1)
 
--- what a run has emitted begins what it emits by more picks
+-- the outcomes of a run begin those of the same run by more picks
 emitted_first : (n : Network) (items : List (List ℤ)) (picks more whole : List ℕ) → picks ++ more ≡ whole → IsPrefixOf (course_under n items picks).state.emitted (course_under n items whole).state.emitted
 unfolding after_picks
 emitted_first n items picks more whole is =
@@ -244,7 +236,7 @@ emitted_few outcomes None emitted emitted' fired fired' was is more few = omega 
 emitted_few outcomes (Some outcome) emitted emitted' fired fired' was is more few = omega (arith, length-append outcomes (outcome ∷ []))
 
 module _ (n : Network) (laws : Laws n) (schedule : Schedule) where
-  -- what holds of the tree and the net of a machine that runs the network
+  -- a fact of the tree and the net of a machine that runs the network holds of the network's
   at_network : (m : Seen) → Runs n m → (P : Tree → Net → Type 0) → P m.tree m.net → P n.tree n.net
   at_network m runs P p = subst (λ t. P t n.net) runs.tree (subst (λ k. P m.tree k) runs.net p)
 
@@ -314,7 +306,7 @@ module _ (n : Network) (laws : Laws n) (schedule : Schedule) where
     stands_fed (item ∷ []) offers wide request = stands_offered item offers.0 offers.1 wide.0 (request (λ e. cc))
     stands_fed (item ∷ other ∷ more) offers wide request = absurd (let none = offers.2 in cc)
 
-  -- where the machine stands
+  -- the machine stands so
   module _ (m : Seen) (w : Way) (given : List (List ℤ)) (close : Option Ending) (outcomes : List Outcome) (idle : ℕ) (walked : List TraceLine) (s : Stands n schedule m w given close outcomes idle walked) where
     abbrev picks : List ℕ
     picks = trace.picks_of walked
@@ -422,7 +414,7 @@ module _ (n : Network) (laws : Laws n) (schedule : Schedule) where
           pub firing_left_given : m.fired + 1 ≤ most_firings n given
           firing_left_given = bare (λ i. m.fired + 1 ≤ most_firings n i) (firing_left [] (nothing_comes n close))
 
-          -- what was emitted begins the meaning
+          -- the outcomes that were emitted begin the meaning
           pub led_begins : IsPrefixOf (outcomes ++ option_to_list handed) (meaning_of n given)
           unfolding with_rest state_of
           led_begins =
@@ -535,13 +527,13 @@ module _ (n : Network) (laws : Laws n) (schedule : Schedule) where
 
       -- without a trap this is only where the stream is ended
       pub must_end : ready_list m ≡ [] → trap_of outcomes ≡ None → close ≢ None
-      must_end none calm not_ended =
+      must_end none untrapped not_ended =
           let word : List ℤ = replicate (width_of n) (pos 0) in
           let may : MayCome n close (word ∷ []) = record { wide = (length-replicate (width_of n) (pos 0), tt); none = λ e closed. absurd (none_open e (sym not_ended ∙ closed)) } in
           let a : outcomes ≡ meaning_of n (given ++ []) = finished_at none [] (nothing_comes n close) in
           let b : outcomes ≡ meaning_of n (given ++ word ∷ []) = finished_at none (word ∷ []) may in
-          let x = all_from n.start n.tree n.leaf (given ++ []) (ap trap_of (sym a) ∙ calm) in
-          let y = all_from n.start n.tree n.leaf (given ++ word ∷ []) (ap trap_of (sym b) ∙ calm) in
+          let x = all_from n.start n.tree n.leaf (given ++ []) (ap trap_of (sym a) ∙ untrapped) in
+          let y = all_from n.start n.tree n.leaf (given ++ word ∷ []) (ap trap_of (sym b) ∙ untrapped) in
           let one = ap length a in
           let two = ap length b in
           absurd (omega (arith, length-append given [], length-append given (word ∷ [])))

@@ -1,9 +1,8 @@
 -- One item more.
-use Rattle.std.proofs.Common.{◌≡◌, ℕ, ℤ, ◌+◌, ◌<◌, ◌≤◌, List, [], ◌∷◌, ◌++◌, length, Option, Some, None, Result, Ok, Err, refl, sym, ap, subst, ◌∙◌, arith, append-nil, length-append}
-use Rattle.std.specs.List.{AllByRecursion, flat_map}
+use Rattle.std.proofs.Common.{◌≡◌, ℕ, ℤ, ◌+◌, ◌<◌, ◌≤◌, List, [], ◌∷◌, ◌++◌, length, sym, ap, subst, ◌∙◌, arith, append-nil, length-append}
+use Rattle.std.specs.List.{AllByRecursion}
 use Rattle.std.proofs.lemmas.List.Concat.{flat_map-append}
-use Rattle.p3l_base.specs.declared.outcome.Outcome.{Outcome}
-use Rattle.p3l_base.specs.declared.outcome.Outcome.TheVariants.{Value, Trapped}
+use Rattle.p3l_base.specs.declared.outcome.Outcome.TheVariants.{Value}
 use Rattle.p3l_skel.specs.declared.tree.Tree.{Tree}
 use Rattle.p3l_skel.specs.Item.{item}
 use Rattle.p3l_skel.specs.Lawful.{IsLawfulTree}
@@ -12,9 +11,9 @@ use Rattle.p3l_skel.proofs.Depth.{lawful_at, IsSubtree-grows}
 use Rattle.p3l_units.specs.Table.{Served, leaf}
 use Rattle.p3l_profile.specs.Greatest.{Greatest, noted_all}
 use Rattle.p3l_profile.specs.Law.{notes_of}
-use Rattle.p3l_profile.specs.Notes.{Note, notes}
+use Rattle.p3l_profile.specs.Notes.{notes}
 use Rattle.p3l_profile.proofs.Noting.{noted_all-append, noted_all-none}
-use Rattle.p3l_run.specs.Sampling.{HaveValues, IsNoted, IsValue}
+use Rattle.p3l_run.specs.Sampling.{IsNoted, IsValue}
 
 pub root_there : (tree : Tree) → IsLawfulTree tree → 0 < length tree.nodes
 root_there tree lawful = IsSubtree-grows 6 tree 0 (length tree.nodes) lawful.preorder

@@ -1,7 +1,7 @@
 -- Runs whose picks are made by turns or by a seed end where no process can fire.
 use Rattle.std.proofs.Common.{◌≡◌, ℕ, ℤ, Bool, false, List, [], ◌∷◌, filter, refl, sym, ap, ◌∙◌, inl, inr}
 use Rattle.std.proofs.lemmas.Bool.{cond-false, false≢true}
-use Rattle.p3l_firing.specs.Carried.{HaveInWords}
+use Rattle.p3l_firing.specs.NetInvariants.{HaveInWords}
 use Rattle.p3l_firing.specs.Fire.{IsStuck, can_fire}
 use Rattle.p3l_firing.specs.Run.{Course, course_from}
 use Rattle.p3l_sched.proofs.PicksLaw.{made_stuck, reads_all}
@@ -13,7 +13,7 @@ use Rattle.p3l_run.specs.Laws.{OnlyRecordedPicksStop}
 use Rattle.p3l_run.specs.Network.{IsSound, Network, begun_with, course_of, course_under, goes_on, is_some, most_firings, size_of}
 use Rattle.p3l_run.proofs.StartSteps.{enough, orderly, some_process}
 
--- where nothing passes a test, nothing of a list does
+-- nothing of a list passes a test that nothing passes
 filter_none : (test : ℕ → Bool) (xs : List ℕ) → ((p : ℕ) → test p ≡ false) → filter test xs ≡ []
 filter_none test [] none = refl
 filter_none test (x ∷ xs) none = cond-false (test x) _ _ (none x) ∙ filter_none test xs none
@@ -27,7 +27,7 @@ module _ (n : Network) where
     made_stops : (w : Way) → IsMade (size_of n) w → goes_on n (course_under n items (picks_from n.tree n.leaf n.net (most_firings n items) w (course_from (begun_with n items)))) ≡ false
     made_stops w made =
         stuck_stops (course_under n items (picks_from n.tree n.leaf n.net (most_firings n items) w (course_from (begun_with n items))))
-        (made_stuck n.tree n.leaf n.net n.firings sound.carried.0 sound.carried.1 (begun_with n items) (orderly n sound items wide) w made (most_firings n items) (enough n sound items wide))
+        (made_stuck n.tree n.leaf n.net n.firings sound.has_invariants.0 sound.has_invariants.1 (begun_with n items) (orderly n sound items wide) w made (most_firings n items) (enough n sound items wide))
 
 pub only_recorded_picks_stop : OnlyRecordedPicksStop
 unfolding course_of

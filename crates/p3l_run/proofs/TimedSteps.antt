@@ -9,6 +9,7 @@ use Rattle.p3l_base.specs.declared.outcome.Outcome.{Outcome}
 use Rattle.p3l_firing.specs.Nodes.{Leaf}
 use Rattle.p3l_skel.specs.declared.tree.Tree.{Tree}
 use Rattle.p3l_skel.specs.Tree.{node_at}
+use Rattle.p3l_io.specs.Change.{HasSameFaults, Observation, change}
 use Rattle.p3l_net.specs.Machine as machine
 use Rattle.p3l_net.specs.Machine.{Fires, can_step, ready_list}
 use Rattle.p3l_net.specs.Offered.{Follows, HasFilledInbox}
@@ -41,14 +42,15 @@ use Rattle.p3l_run.specs.declared.execution.Execution.{Execution}
 use Rattle.p3l_run.specs.declared.fault.RunFault.{RunFault}
 use Rattle.p3l_run.specs.declared.fault.RunFault.TheVariants as fault
 use Rattle.p3l_run.specs.declared.run.Ran.{Ran}
-use Rattle.p3l_run.specs.declared.write.Report.{Report}
-use Rattle.p3l_run.specs.Execution.{Ends, Executes, HasFired, IsFinish, Job, Outside, outside, started, stats_at}
+use Rattle.p3l_run.specs.declared.write.Emitted.{Emitted}
+use Rattle.p3l_run.specs.Execution.{Ends, Executes, HasFired, IsFinish, Job, started, stats_at}
 use Rattle.p3l_run.specs.Feed.{Feeds, FeedsInVain, Offers, closed_so, input_limit, most_of_input}
 use Rattle.p3l_run.specs.Laws.{Laws}
 use Rattle.p3l_run.specs.Network.{Network, begun_with, course_of, course_under, meaning_of, picks_of as picks_under, ready_at, size_of, width_of}
 use Rattle.p3l_run.specs.Run.{MayCome, MayFollow}
 use Rattle.p3l_run.specs.Start.{beginning, fresh, item_number, most_from, state_from}
 use Rattle.p3l_run.specs.Steps.{Stands}
+use Rattle.p3l_run.specs.Streams.{Streams, streams}
 use Rattle.p3l_run.specs.Timed.{AreTimed, AtTime, AwaitsInTime, BeginTimed, EndsEarly, EndsInTime, GoesInTime, InTime, NoneIsDue, timing, under}
 use Rattle.p3l_run.specs.Write.{HasBegun, HasPut, WriteCause}
 use Rattle.p3l_run.proofs.ExecutionSteps.{comes_then, ends_over, ends_early, ends_unfed, ends_unstarted, fed_in_vain, kept_more}
@@ -60,7 +62,7 @@ use Rattle.p3l_run.specs.Trap.{trap_after}
 use Rattle.p3l_run.proofs.WriteSteps.{cause_on, put_more, put_nothing, text_more}
 
 -- an end that came early
-early_under : (job : Job) (prices picks : List ℕ) (now : Outside) (failed : RunFault) (ends : Ends (under job picks) now (Err failed))
+early_under : (job : Job) (prices picks : List ℕ) (now : Streams) (failed : RunFault) (ends : Ends (under job picks) now (Err failed))
     → ((later : List (List ℤ)) → MayFollow job.network ends.ends.closed later → BeginTimed job.network prices (ends.ends.items ++ later) picks) → EndsEarly job prices now failed
 early_under job prices picks now failed ends begins = record { picks = picks; ends = ends; begins = begins }
 
@@ -102,7 +104,7 @@ module _ (n : Network) (laws : Laws n) where
           laws.next (length (xs ++ p ∷ [])) (way.Reads (x ∷ (xs ++ p ∷ []))) c x some_now refl
           ∙ ap (λ ys. x ∷ ys) (again rest)
 
-  -- where the machine stands under picks that were all made, it stands where one more is to be made
+  -- a machine that stands under picks that were all made stands under these and one more that is to be made
   module _ (m : machine.Seen) (given : List (List ℤ)) (close : Option Ending) (outcomes : List Outcome) (walked : List TraceLine) (picks : List ℕ)
       (s : Stands n (schedules.Recorded picks) m (way.Reads []) given close outcomes 0 walked) (walked_are : trace.picks_of walked ≡ picks)
       (filled : (later : List (List ℤ)) → MayCome n close later → HasFilledInbox m later) where
@@ -138,7 +140,7 @@ module _ (n : Network) (laws : Laws n) where
           };
     }
 
--- where a process can fire, some are ready; and where none can, none are
+-- some processes are ready if one can fire, and none if none can
 some_listed : (m : machine.Seen) (p : ℕ) → p < length m.net.procs → can_step m p ≡ true → ready_list m ≢ []
 some_listed m p there can none = none_at (sym (kth (can_step m) 0 p (length m.net.procs) there (let e : 0 + p ≡ p = omega arith in ap (can_step m) e ∙ can)) ∙ ap (λ ps. slice_get ps (count_from (can_step m) 0 p)) none)
   where
@@ -160,7 +162,7 @@ module _ (job : Job) (prices : List ℕ) where
   abbrev n : Network
   n = job.network
 
-  module _ (now : Outside) (e : Execution) (k : Clock) (is : InTime job prices now e k) where
+  module _ (now : Streams) (e : Execution) (k : Clock) (is : InTime job prices now e k) where
     abbrev d : Executes (under job is.picks) now e
     d = is.executes
 
@@ -175,7 +177,7 @@ module _ (job : Job) (prices : List ℕ) where
     pub in_step : IsInStep k e.machine
     in_step = (is.at [] (steps.nothing_comes n e.close)).times.step
 
-    -- what the timer requires where an item may have been offered
+    -- the requirements of the timer after an item may have been offered
     pub others_due : (m : machine.Seen) (more : List (List ℤ)) → Offers e.machine m more → (r : ℕ) → r ≢ 0 → can_step m r ≡ is_some (due_at k.due r)
     others_due m [] same r other = ap (λ x. can_step x r) same ∙ sym (in_step.due r)
     others_due m (item ∷ more) offers r other =
@@ -223,11 +225,11 @@ module _ (job : Job) (prices : List ℕ) where
     same_width = ap (λ t. (node_at t 0).ins) d.stands.runs.tree
 
     -- the machine was fed
-    pub fed_in_time : (m : machine.Seen) (s : stream.Seen) (left : Option (List ℕ)) (after : ℕ) (close : Option Ending) (new : Clock)
-        → Feeds (node_at e.machine.tree 0).ins e.machine m e.stream s now.rest left now.read_faults after e.close close → IsRenewed m k new
-        → AwaitsInTime job prices (outside left after now.taken now.write_faults) (record e { machine = m; stream = s; close = close }) new × (m.fired ≡ e.machine.fired)
-    fed_in_time m s left after close new feeds renews =
-        let f : Feeds (width_of n) e.machine m e.stream s now.rest left now.read_faults after e.close close = subst (λ w. Feeds w e.machine m e.stream s now.rest left now.read_faults after e.close close) same_width feeds in
+    pub fed_in_time : (m : machine.Seen) (s : stream.Seen) (input : Observation (List ℕ)) (close : Option Ending) (new : Clock)
+        → Feeds (node_at e.machine.tree 0).ins e.machine m e.stream s (change now.input input) e.close close → IsRenewed m k new
+        → AwaitsInTime job prices (streams input now.output) (record e { machine = m; stream = s; close = close }) new × (m.fired ≡ e.machine.fired)
+    fed_in_time m s input close new feeds renews =
+        let f : Feeds (width_of n) e.machine m e.stream s (change now.input input) e.close close = subst (λ w. Feeds w e.machine m e.stream s (change now.input input) e.close close) same_width feeds in
         let same = fed_fired e.machine m f.more f.offers in (
           record {
             is = record {
@@ -243,13 +245,13 @@ module _ (job : Job) (prices : List ℕ) where
                 items = d.items ++ f.more;
                 outcomes = d.outcomes;
                 walked = d.walked;
-                gives = f.gives job.before.rest job.before.read_faults d.items d.gives;
+                gives = f.gives job.before.input d.items d.gives;
                 stands = steps.stands_fed n d.laws (schedules.Recorded is.picks) e.machine m e.picker d.items e.close close d.outcomes e.idle d.walked d.stands f.kept f.more f.offers f.wide f.request;
                 trap_is = d.trap_is;
                 sum_is = d.sum_is;
                 put = d.put;
                 kept_is = d.kept_is;
-                quiet = d.quiet;
+                same_faults = d.same_faults;
               };
               reads = is.reads;
               walked_are = is.walked_are;
@@ -264,20 +266,20 @@ module _ (job : Job) (prices : List ℕ) where
           same,
         )
 
-    pub unfed_in_time : (s : stream.Seen) (left : Option (List ℕ)) (after : ℕ) → FeedsInVain (node_at e.machine.tree 0).ins e.stream s now.rest left now.read_faults after e.close → EndsEarly job prices (outside left after now.taken now.write_faults) fault.NoMemory
+    pub unfed_in_time : (s : stream.Seen) (input : Observation (List ℕ)) → FeedsInVain (node_at e.machine.tree 0).ins e.stream s (change now.input input) e.close → EndsEarly job prices (streams input now.output) fault.NoMemory
     unfolding ends_unfed
-    unfed_in_time s left after vain =
-        early_under job prices is.picks _ _ (ends_unfed (under job is.picks) now e d s left after vain)
+    unfed_in_time s input vain =
+        early_under job prices is.picks _ _ (ends_unfed (under job is.picks) now e d s input vain)
         (λ later on.
-        let more = (fed_in_vain (under job is.picks) now e d s left after vain).more in
+        let more = (fed_in_vain (under job is.picks) now e d s input vain).more in
         subst (λ items. BeginTimed n prices items is.picks) (sym (append_assoc d.items more later))
-        (is.at (more ++ later) (comes_then (under job is.picks) now e d s left after vain later on.wide)).begins)
+        (is.at (more ++ later) (comes_then (under job is.picks) now e d s input vain later on.wide)).begins)
 
     pub early_in_time : EndsEarly job prices now fault.NoMemory
     unfolding ends_early
     early_in_time = early_under job prices is.picks _ _ (ends_early (under job is.picks) now e d) (λ later on. (is.at later (steps.may_come n e.close later on)).begins)
 
-  module _ (now : Outside) (e : Execution) (k : Clock) (a : AwaitsInTime job prices now e k) where
+  module _ (now : Streams) (e : Execution) (k : Clock) (a : AwaitsInTime job prices now e k) where
     abbrev it : InTime job prices now e k
     it = a.is
 
@@ -314,7 +316,7 @@ module _ (job : Job) (prices : List ℕ) where
       made_all = all_made n x.laws e.machine x.items e.close x.outcomes x.walked it.picks (stands now e k it) it.walked_are filled
 
       -- so it is over
-      pub ended_in_time : (named : Tree) → named ≡ n.named → (ran : Ran) → IsFinish named e ran.finish → ran.stats ≡ stats_at e → ran.lines ≡ e.kept → ran.sum ≡ e.report.sum → EndsInTime job prices now ran k
+      pub ended_in_time : (named : Tree) → named ≡ n.named → (ran : Ran) → IsFinish named e ran.finish → ran.stats ≡ stats_at e → ran.lines ≡ e.kept → ran.sum ≡ e.emitted.sum → EndsInTime job prices now ran k
       unfolding ends_over
       ended_in_time named named_is ran finish_is stats_are lines_are sum_is = record {
         picks = it.picks;
@@ -363,7 +365,7 @@ module _ (job : Job) (prices : List ℕ) where
         fires : Fires n.leaf e.machine e'.machine p handed
         fires = subst (λ l. Fires l e.machine e'.machine p handed) (sym leaf_is) fired.fires
 
-        -- what the timer requires then
+        -- the requirements of the timer then
         pub typed_after : IsTyped e'.machine.tree e'.machine.net
         typed_after = subst (λ y. IsTyped y e'.machine.net) (sym fires.tree) (subst (IsTyped e.machine.tree) (sym fires.net) (typed now e k it))
 
@@ -374,12 +376,12 @@ module _ (job : Job) (prices : List ℕ) where
         count_after = fires.fired ∙ ap (λ m. m + 1) (sym (in_step now e k it).fired)
 
         pub others_after : OthersStay e.machine e'.machine p → e'.machine.trapped ≡ false → clock.OthersAsBefore e'.machine p (due_at k.due)
-        others_after stay calm = λ r other apart.
-            let calm_before : e.machine.trapped ≡ false = calm_where e.machine.trapped _ can in
+        others_after stay untrapped = λ r other apart.
+            let untrapped_before : e.machine.trapped ≡ false = untrapped_where e.machine.trapped _ can in
             let none_shared = subst (λ (net : Net). ShareNone net p r) fires.net apart in
-            ap (λ b. not b && ready_now r) calm
+            ap (λ b. not b && ready_now r) untrapped
             ∙ stay r other none_shared
-            ∙ sym (ap (λ b. not b && ready_then r) calm_before)
+            ∙ sym (ap (λ b. not b && ready_then r) untrapped_before)
             ∙ sym ((in_step now e k it).due r)
           where
             ready_now : ℕ → Bool
@@ -388,9 +390,9 @@ module _ (job : Job) (prices : List ℕ) where
             ready_then : ℕ → Bool
             ready_then r = is_ready e.machine.tree e.machine.net (machine.state_of e.machine []) r
 
-            calm_where : (b c : Bool) → (not b && c) ≡ true → b ≡ false
-            calm_where true c h = cc
-            calm_where false c h = refl
+            untrapped_where : (b c : Bool) → (not b && c) ≡ true → b ≡ false
+            untrapped_where true c h = cc
+            untrapped_where false c h = refl
 
         abbrev line : TraceLine
         line = record { pick = p; kind = Some fired.kind }
@@ -398,9 +400,9 @@ module _ (job : Job) (prices : List ℕ) where
         stands_more : Stands n (schedules.Recorded (it.picks ++ p ∷ [])) e'.machine (way.Reads []) x.items e.close (x.outcomes ++ option_to_list handed) 0 (x.walked ++ line ∷ [])
         stands_more = steps.stands_fired n x.laws (schedules.Recorded (it.picks ++ p ∷ [])) e.machine (way.Reads (p ∷ [])) x.items e.close x.outcomes 0 x.walked recorded_one filled p (Some fired.kind) refl some e'.machine handed can fires there fired.kind fired.kind_is refl
 
-        pub ends_unwritten_in_time : (taken : Option (List ℕ)) (after : ℕ) (failed : RunFault) → HasBegun now.taken taken (text_of (option_to_list handed)) → WriteCause {T = Report} now.write_faults after (Err failed)
-            → EndsEarly job prices (outside now.rest now.read_faults taken after) failed
-        ends_unwritten_in_time taken after failed begun cause =
+        pub ends_unwritten_in_time : (output : Observation (List ℕ)) (failed : RunFault) → HasBegun (change now.output output) (text_of (option_to_list handed)) → WriteCause {T = Emitted} (change now.output output) (Err failed)
+            → EndsEarly job prices (streams now.input output) failed
+        ends_unwritten_in_time output failed begun cause =
             early_under job prices (it.picks ++ p ∷ []) _ _ (record {
               ends = record {
                 stream = e.stream;
@@ -408,14 +410,14 @@ module _ (job : Job) (prices : List ℕ) where
                 closed = closed_so e.close;
                 gives = x.gives;
                 begun =
-                    steps.begun_last (meaning_of n x.items) x.outcomes handed job.before.taken now.taken taken
+                    steps.begun_last (meaning_of n x.items) x.outcomes handed job.before.output now.output output
                     (steps.led_begins n x.laws (schedules.Recorded (it.picks ++ p ∷ [])) e.machine (way.Reads (p ∷ [])) x.items e.close x.outcomes 0 x.walked recorded_one filled p None refl some e'.machine handed can fires) x.put begun;
                 emits = λ later on.
-                    steps.begun_last (course_of n (schedules.Recorded (it.picks ++ p ∷ [])) (x.items ++ later)).state.emitted x.outcomes handed job.before.taken now.taken taken
+                    steps.begun_last (course_of n (schedules.Recorded (it.picks ++ p ∷ [])) (x.items ++ later)).state.emitted x.outcomes handed job.before.output now.output output
                     (steps.begins_emitted n x.laws (schedules.Recorded (it.picks ++ p ∷ [])) e'.machine (way.Reads []) x.items e.close (x.outcomes ++ option_to_list handed) 0 (x.walked ++ line ∷ []) stands_more later (steps.may_come n e.close later on))
                     x.put begun;
               };
-              output = cause_on Ran Report job.before.write_faults now.write_faults after failed x.quiet cause;
+              output = cause_on Ran Emitted job.before.output now.output output failed x.same_faults cause;
             })
             (λ later on. begins_next later (steps.may_come n e.close later on))
 
@@ -450,10 +452,10 @@ module _ (job : Job) (prices : List ℕ) where
                   ∙ ap₂ (λ b ps. b + price_at ps p) (it.busy p) it.prices_are
                   ∙ sym (busy_last n.tree n.leaf n.net (price_at prices) p it.picks)
 
-          pub went_in_time : (report : Report) (taken : Option (List ℕ)) (after : ℕ) → report.trap ≡ fold trap_after e'.report.trap (option_to_list handed) → report.sum ≡ fold sum_after e'.report.sum (option_to_list handed)
-              → HasPut now.taken taken (text_of (option_to_list handed)) → after ≡ now.write_faults
-              → GoesInTime job prices (outside now.rest now.read_faults taken after) e (record e' { report = report }) k' true
-          went_in_time report taken after trap_is sum_is put quiet = subst (λ y. GoesInTime job prices (outside now.rest now.read_faults taken after) e (record y { report = report }) k' true) (sym fired.rest) (
+          pub went_in_time : (emitted : Emitted) (output : Observation (List ℕ)) → emitted.trap ≡ fold trap_after e'.emitted.trap (option_to_list handed) → emitted.sum ≡ fold sum_after e'.emitted.sum (option_to_list handed)
+              → HasPut (change now.output output) (text_of (option_to_list handed)) → HasSameFaults (change now.output output)
+              → GoesInTime job prices (streams now.input output) e (record e' { emitted = emitted }) k' true
+          went_in_time emitted output trap_is sum_is put same_faults = subst (λ y. GoesInTime job prices (streams now.input output) e (record y { emitted = emitted }) k' true) (sym fired.rest) (
             record {
               fresh_is = it.fresh_is;
               picks = it.picks ++ p ∷ [];
@@ -472,13 +474,13 @@ module _ (job : Job) (prices : List ℕ) where
                     subst (λ i. Stands n (schedules.Recorded (it.picks ++ p ∷ [])) e'.machine e.picker x.items e.close (x.outcomes ++ option_to_list handed) i (x.walked ++ line ∷ [])) (sym it.none_idle)
                     (subst (λ w. Stands n (schedules.Recorded (it.picks ++ p ∷ [])) e'.machine w x.items e.close (x.outcomes ++ option_to_list handed) 0 (x.walked ++ line ∷ [])) (sym it.reads)
                     stands_more);
-                trap_is = trap_is ∙ ap (λ y. fold trap_after y.report.trap (option_to_list handed)) fired.rest ∙ steps.trap_more e.report.trap x.outcomes (option_to_list handed) x.trap_is;
-                sum_is = sum_is ∙ ap (λ y. fold sum_after y.report.sum (option_to_list handed)) fired.rest ∙ steps.sum_more e.report.sum x.outcomes (option_to_list handed) x.sum_is;
+                trap_is = trap_is ∙ ap (λ y. fold trap_after y.emitted.trap (option_to_list handed)) fired.rest ∙ steps.trap_more e.emitted.trap x.outcomes (option_to_list handed) x.trap_is;
+                sum_is = sum_is ∙ ap (λ y. fold sum_after y.emitted.sum (option_to_list handed)) fired.rest ∙ steps.sum_more e.emitted.sum x.outcomes (option_to_list handed) x.sum_is;
                 put =
-                    subst (λ y. HasPut job.before.taken taken y) (sym (text_more x.outcomes (option_to_list handed)))
-                    (put_more job.before.taken now.taken taken (text_of x.outcomes) (text_of (option_to_list handed)) x.put put);
+                    subst (HasPut (change job.before.output output)) (sym (text_more x.outcomes (option_to_list handed)))
+                    (put_more job.before.output now.output output (text_of x.outcomes) (text_of (option_to_list handed)) x.put put);
                 kept_is = kept_more job.keeping e.kept x.walked p (Some fired.kind) x.kept_is;
-                quiet = quiet ∙ x.quiet;
+                same_faults = same_faults ∙ x.same_faults;
               };
               reads = it.reads;
               walked_are = picks_more x.walked line ∙ ap (λ ps. ps ++ p ∷ []) it.walked_are;
@@ -501,15 +503,15 @@ module _ (job : Job) (prices : List ℕ) where
                   let count = it.count in
                   omega (arith, long, l, most, fits, count)
 
--- what a step led to
-pub went_now : (job : Job) (prices : List ℕ) (now : Outside) (old new : Execution) (k : Clock) (going : Bool) → going ≡ true → GoesInTime job prices now old new k going → InTime job prices now new k × (new.machine.fired ≡ old.machine.fired + 1)
+-- the result of a step
+pub went_now : (job : Job) (prices : List ℕ) (now : Streams) (old new : Execution) (k : Clock) (going : Bool) → going ≡ true → GoesInTime job prices now old new k going → InTime job prices now new k × (new.machine.fired ≡ old.machine.fired + 1)
 went_now job prices now old new k going is goes = subst (GoesInTime job prices now old new k) is goes
 
-pub none_due_now : (job : Job) (prices : List ℕ) (now : Outside) (old new : Execution) (k : Clock) (going : Bool) → going ≡ false → GoesInTime job prices now old new k going → AwaitsInTime job prices now new k × NoneIsDue k
+pub none_due_now : (job : Job) (prices : List ℕ) (now : Streams) (old new : Execution) (k : Clock) (going : Bool) → going ≡ false → GoesInTime job prices now old new k going → AwaitsInTime job prices now new k × NoneIsDue k
 none_due_now job prices now old new k going is goes = subst (GoesInTime job prices now old new k) is goes
 
 -- as many firings as were counted may still come
-pub fired_at_most : {job : Job} {prices : List ℕ} {now : Outside} {e : Execution} {k : Clock} → InTime job prices now e k → e.machine.fired < 2 ^ 63
+pub fired_at_most : {job : Job} {prices : List ℕ} {now : Streams} {e : Execution} {k : Clock} → InTime job prices now e k → e.machine.fired < 2 ^ 63
 fired_at_most {job = job} {e = e} is =
     let d = is.executes in
     let n : Network = job.network in
@@ -518,10 +520,6 @@ fired_at_most {job = job} {e = e} is =
     let most = steps.few_fits n.start n.firings (length d.items) most_of_input (omega (arith, few)) in
     let fits = d.fits in
     omega (arith, l, most, fits)
-
--- what the feeding of a machine offered to it
-pub offers_of : {width : ℕ} {m new : machine.Seen} {s t : stream.Seen} {rest left : Option (List ℕ)} {before now : ℕ} {close close' : Option Ending} → Feeds width m new s t rest left before now close close' → (more : List (List ℤ)) × Offers m new more
-offers_of f = (f.more, f.offers)
 
 -- THE START: nothing has fired
 module _ (job : Job) (prices : List ℕ) where
@@ -543,13 +541,13 @@ module _ (job : Job) (prices : List ℕ) where
           items = [];
           outcomes = [];
           walked = [];
-          gives = gives_first (width_of job.network) job.before.rest job.before.read_faults (stream.started (width_of job.network) input_limit) given refl;
+          gives = gives_first (width_of job.network) job.before.input (stream.started (width_of job.network) input_limit) given refl;
           stands = steps.stands_first job.network laws (schedules.Recorded []) (machine.started job.network.tree job.network.net) (ap (λ s. beginning s job.network.tree job.network.net) (sym fresh_is)) tt;
           trap_is = refl;
           sum_is = refl;
-          put = put_nothing job.before.taken;
+          put = put_nothing job.before.output;
           kept_is = refl;
-          quiet = refl;
+          same_faults = refl;
         };
         reads = refl;
         walked_are = refl;

@@ -23,7 +23,7 @@ agree_more tree leaf net c (first ∷ walked) line agree one = (agree.0, agree_m
 pub same_line : (b b' : Bool) (net net' : Net) (line : TraceLine) → b ≡ b' → net ≡ net' → IsLineOf b net line → IsLineOf b' net' line
 same_line b b' net net' line e f is = subst (λ k. IsLineOf b' k line) f (subst (λ k. IsLineOf k net line) e is)
 
--- how many lines pass a test, with one more
+-- the count of lines that pass a test, with one line more
 count_more : (test : TraceLine → Bool) (walked : List TraceLine) (line : TraceLine) → count_by test (walked ++ line ∷ []) ≡ count_by test walked + cond (test line) 1 0
 count_more test walked line = fold-append (λ (count : ℕ) (l : TraceLine). count + cond (test l) 1 0) 0 walked (line ∷ [])
 

@@ -3,7 +3,8 @@ use Rattle.std.specs.Prelude.{◌≡◌, ◌≢◌, ℕ, ℤ, ◌+◌, ◌<◌, 
 use Rattle.p3l_base.specs.declared.outcome.Outcome.{Outcome}
 use Rattle.p3l_firing.specs.declared.net.Net.{Net}
 use Rattle.p3l_skel.specs.declared.tree.Tree.{Tree}
-use Rattle.p3l_firing.specs.Carried.{HaveInWords}
+use Rattle.p3l_firing.specs.NetInvariants.{HaveInWords}
+use Rattle.p3l_io.specs.Change.{Change, Observation, change}
 use Rattle.p3l_net.specs.Machine as machine
 use Rattle.p3l_net.specs.Machine.{Fires, Seen, can_step}
 use Rattle.p3l_firing.specs.Nodes.{Leaf}
@@ -20,14 +21,6 @@ use Rattle.p3l_trace.specs.Agreement.{AgreesWith, AllAgree, picks_of}
 use Rattle.p3l_run.specs.declared.comparison.Comparison.{Comparison}
 use Rattle.p3l_run.specs.Retraced.{IsRequestedBy, one_waits}
 
--- what the outside reports: the rest of the input and the count of its faults
-pub record Outside : Type 0 where
-  pub rest : Option (List ℕ)
-  pub faults : ℕ
-
-abbrev pub outside : Option (List ℕ) → ℕ → Outside
-outside rest faults = record { rest = rest; faults = faults }
-
 -- the machine stands where the picks of these lines lead on the items given and those that come later, and each of the lines agrees
 pub record IsAt (n : Network) (m : Seen) (items later : List (List ℤ)) (outcomes : List Outcome) (walked : List TraceLine) : Type 0 where
   pub follows : Follows m outcomes later (course_under n items (picks_of walked))
@@ -43,44 +36,45 @@ pub record Stands (n : Network) (m : Seen) (given : List (List ℤ)) (close : Op
 abbrev pub started : Tree → Net → ℕ → Comparison
 started tree net width = record { machine = machine.started tree net; stream = stream.started width input_limit; close = None }
 
--- these lines of a trace of the network, whose runs begin with nothing fired, were passed, on the items that the stream gave from what
--- the outside reported before to what it reports now; once that has ended no item waits
-pub record HasPassed (n : Network) (before now : Outside) (walked : List TraceLine) (w : Comparison) : Type 0 where
+-- these lines of a trace of the network, whose runs begin with nothing fired, were passed, on the items that the stream gave of the
+-- input; once that has ended no item waits
+pub record HasPassed (n : Network) (input : Change (List ℕ)) (walked : List TraceLine) (w : Comparison) : Type 0 where
   pub laws : Laws n
   pub fresh_is : n.start ≡ fresh
   pub fits : most_from n.start n.firings most_of_input < 2 ^ 63
   pub items : List (List ℤ)
   pub outcomes : List Outcome
-  pub gives : Gives (width_of n) before.rest now.rest before.faults now.faults w.stream items (closed_so w.close)
+  pub gives : Gives (width_of n) input w.stream items (closed_so w.close)
   pub stands : Stands n w.machine items w.close outcomes walked
   pub empty : (e : Ending) → w.close ≡ Some e → w.machine.inbox ≡ None
 
 -- a comparison with a trace of the network is under way: items were requested before the picks of the lines passed, and none after
-pub record Walks (n : Network) (before now : Outside) (walked : List TraceLine) (w : Comparison) : Type 0 where
-  pub passed : HasPassed n before now walked w
+pub record Walks (n : Network) (input : Change (List ℕ)) (walked : List TraceLine) (w : Comparison) : Type 0 where
+  pub passed : HasPassed n input walked w
   pub request : (later : List (List ℤ)) → MayCome n w.close later →
       IsRequestedBy n (passed.items ++ later) (picks_of walked) (length passed.items) w.close
 
 -- an item was requested once more, so the inbox is filled, as long as the stream isn't ended, and the machine can fire just where
 -- the network can
-pub record AwaitsLine (n : Network) (before now : Outside) (walked : List TraceLine) (w : Comparison) : Type 0 where
-  pub passed : HasPassed n before now walked w
+pub record AwaitsLine (n : Network) (input : Change (List ℕ)) (walked : List TraceLine) (w : Comparison) : Type 0 where
+  pub passed : HasPassed n input walked w
   pub filled : w.close ≡ None → w.machine.inbox ≢ None
   pub waits : length passed.items ≡ w.machine.sent + one_waits w.close
 
 -- a comparison with some network is under way, with these bodies of modules
-pub record IsUnderWay (leaf : Leaf) (now : Outside) (w : Comparison) : Type 0 where
+pub record IsUnderWay (leaf : Leaf) (now : Observation (List ℕ)) (w : Comparison) : Type 0 where
   pub network : Network
   pub leaf_is : network.leaf ≡ leaf
-  pub before : Outside
+  pub first : Observation (List ℕ)
   pub walked : List TraceLine
-  pub walks : Walks network before now walked w
+  pub walks : Walks network (change first now) walked w
 
 -- whatever the network is, a comparison that was fed is under way still
-abbrev pub FeedsOn : Outside → Outside → Comparison → Comparison → Type 0
-FeedsOn now after old new = (n : Network) (before : Outside) (walked : List TraceLine) → HasPassed n before now walked old → AwaitsLine n before after walked new
+abbrev pub FeedsOn : (input : Change (List ℕ)) → (old new : Comparison) → Type 0
+FeedsOn input old new =
+    (n : Network) (first : Observation (List ℕ)) (walked : List TraceLine) → HasPassed n (change first input.old) walked old → AwaitsLine n (change first input.new) walked new
 
--- what the pick of a process does, by whether that can fire
+-- the effect of a pick of a process, which fires if it can
 abbrev pub StepsIf : Bool → Leaf → ℕ → Comparison → Comparison → Type 0
 StepsIf true leaf p old new = (handed : Option Outcome) × Fires leaf old.machine new.machine p handed × (new ≡ record old { machine = new.machine })
 StepsIf false leaf p old new = new ≡ old
@@ -89,11 +83,11 @@ abbrev pub Steps : Leaf → ℕ → Comparison → Comparison → Type 0
 Steps leaf p old new = StepsIf (can_step old.machine p) leaf p old new
 
 -- one line more was passed; or it differs, and nothing was done but to feed the machine
-abbrev pub Passes : Network → Outside → Outside → List TraceLine → TraceLine → Comparison → Bool → Type 0
-Passes n before now walked line w true = Walks n before now (walked ++ line ∷ []) w
-Passes n before now walked line w false = AwaitsLine n before now walked w × (AgreesWith w.machine line → ⊥)
+abbrev pub Passes : Network → (input : Change (List ℕ)) → (walked : List TraceLine) → (line : TraceLine) → Comparison → Bool → Type 0
+Passes n input walked line w true = Walks n input (walked ++ line ∷ []) w
+Passes n input walked line w false = AwaitsLine n input walked w × (AgreesWith w.machine line → ⊥)
 
 -- whatever the network is, with these bodies of modules, a comparison passes the next line, if that agrees
-abbrev pub PassesOn : Leaf → TraceLine → Outside → Outside → Comparison → Comparison → Bool → Type 0
-PassesOn leaf line now after old new agrees =
-    (n : Network) (before : Outside) (walked : List TraceLine) → n.leaf ≡ leaf → Walks n before now walked old → Passes n before after walked line new agrees
+abbrev pub PassesOn : Leaf → TraceLine → (input : Change (List ℕ)) → (old new : Comparison) → Bool → Type 0
+PassesOn leaf line input old new agrees =
+    (n : Network) (first : Observation (List ℕ)) (walked : List TraceLine) → n.leaf ≡ leaf → Walks n (change first input.old) walked old → Passes n (change first input.new) walked line new agrees

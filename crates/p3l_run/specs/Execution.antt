@@ -5,6 +5,7 @@ use Rattle.p3l_base.specs.declared.outcome.Outcome.{Outcome}
 use Rattle.p3l_firing.specs.declared.net.Net.{Net}
 use Rattle.p3l_firing.specs.declared.process.ProcKind.{ProcKind}
 use Rattle.p3l_firing.specs.Nodes.{Leaf}
+use Rattle.p3l_io.specs.Change.{Change, HasSameFaults, Observation, change}
 use Rattle.p3l_skel.specs.declared.tree.Tree.{Tree}
 use Rattle.p3l_net.specs.Machine as machine
 use Rattle.p3l_net.specs.Machine.{Fires, can_step, ready_list}
@@ -30,36 +31,27 @@ use Rattle.p3l_run.specs.Network.{Network, width_of}
 use Rattle.p3l_run.specs.Run.{IsRunEnd, MayEnd, end_of}
 use Rattle.p3l_run.specs.Start.{item_number, most_from}
 use Rattle.p3l_run.specs.Steps.{Stands, left_of}
+use Rattle.p3l_run.specs.Streams.{Streams, streams}
 use Rattle.p3l_run.specs.Sum.{sum_of}
 use Rattle.p3l_run.specs.Trap.{trap_of}
 use Rattle.p3l_run.specs.Write.{HasPut, WriteCause}
 
--- what the outside reports: the rest of the input and the count of its faults, what the output took and the count of its faults
-pub record Outside : Type 0 where
-  pub rest : Option (List ℕ)
-  pub read_faults : ℕ
-  pub taken : Option (List ℕ)
-  pub write_faults : ℕ
-
-abbrev pub outside : Option (List ℕ) → ℕ → Option (List ℕ) → ℕ → Outside
-outside rest read_faults taken write_faults = record { rest = rest; read_faults = read_faults; taken = taken; write_faults = write_faults }
-
--- what is to be run: a network under a schedule, what of the run is kept, and what the outside reported before
+-- a network to be run under a schedule, what of the run is kept, and the streams before it
 pub record Job : Type 0 where
   pub network : Network
   pub schedule : Schedule
   pub keeping : Keeping
-  pub before : Outside
+  pub before : Streams
 
-abbrev pub job_of : Network → Schedule → Keeping → Outside → Job
+abbrev pub job_of : Network → Schedule → Keeping → Streams → Job
 job_of network schedule keeping before = record { network = network; schedule = schedule; keeping = keeping; before = before }
 
--- the run of a job came to this end, with what the outside reports then
-pub record Ends (job : Job) (now : Outside) (result : Result Ran RunFault) : Type 0 where
-  pub ends : IsRunEnd job.network job.schedule job.keeping job.before.rest now.rest job.before.read_faults now.read_faults job.before.taken now.taken result
-  pub output : WriteCause job.before.write_faults now.write_faults result
+-- the run of a job came to this end, with the streams as they are then
+pub record Ends (job : Job) (now : Streams) (result : Result Ran RunFault) : Type 0 where
+  pub ends : IsRunEnd job.network job.schedule job.keeping (change job.before.input now.input) (change job.before.output now.output) result
+  pub output : WriteCause (change job.before.output now.output) result
 
--- how many picks are left at most, where there are 2 ^ 63 firings at most
+-- the most picks that are left, if there are 2 ^ 63 firings at most
 abbrev pub left_at : Execution → ℕ
 left_at e = left_of (2 ^ 63) e.machine.fired e.picker
 
@@ -73,7 +65,7 @@ begun_on m earlier firings width schedule keeping =
       stream = stream.started width input_limit;
       picker = begun schedule;
       close = None;
-      report = record { trap = None; sum = pos 0 };
+      emitted = record { trap = None; sum = pos 0 };
       idle = 0;
       kept = kept_by keeping [];
     }
@@ -83,8 +75,8 @@ abbrev pub started : Tree → Net → ℕ → ℕ → Schedule → Keeping → E
 started tree net firings width schedule keeping = begun_on (machine.started tree net) 0 firings width schedule keeping
 
 -- the run of a job is under way: the machine runs the network on the items that the stream gave, the text of what it emitted is
--- written, the trap and the sum of these outcomes are in its report, and the trace so far is kept
-pub record Executes (job : Job) (now : Outside) (e : Execution) : Type 0 where
+-- written, its trap and its sum are those of these outcomes, and the trace so far is kept
+pub record Executes (job : Job) (now : Streams) (e : Execution) : Type 0 where
   pub laws : Laws job.network
   pub firings_is : e.firings ≡ job.network.firings
   pub fits : most_from job.network.start job.network.firings most_of_input < 2 ^ 63
@@ -94,16 +86,16 @@ pub record Executes (job : Job) (now : Outside) (e : Execution) : Type 0 where
   pub items : List (List ℤ)
   pub outcomes : List Outcome
   pub walked : List TraceLine
-  pub gives : Gives (width_of job.network) job.before.rest now.rest job.before.read_faults now.read_faults e.stream items (closed_so e.close)
+  pub gives : Gives (width_of job.network) (change job.before.input now.input) e.stream items (closed_so e.close)
   pub stands : Stands job.network job.schedule e.machine e.picker items e.close outcomes e.idle walked
-  pub trap_is : e.report.trap ≡ trap_of outcomes
-  pub sum_is : e.report.sum ≡ sum_of outcomes
-  pub put : HasPut job.before.taken now.taken (text_of outcomes)
+  pub trap_is : e.emitted.trap ≡ trap_of outcomes
+  pub sum_is : e.emitted.sum ≡ sum_of outcomes
+  pub put : HasPut (change job.before.output now.output) (text_of outcomes)
   pub kept_is : e.kept ≡ kept_by job.keeping walked
-  pub quiet : now.write_faults ≡ job.before.write_faults
+  pub same_faults : HasSameFaults (change job.before.output now.output)
 
 -- the same where the inbox is filled, as long as the stream isn't ended, so that the machine can fire just where the network can
-pub record AwaitsPick (job : Job) (now : Outside) (e : Execution) : Type 0 where
+pub record AwaitsPick (job : Job) (now : Streams) (e : Execution) : Type 0 where
   pub executes : Executes job now e
   pub filled : e.close ≡ None → e.machine.inbox ≢ None
 
@@ -141,9 +133,9 @@ pub record HasFired (leaf : Leaf) (p : ℕ) (old new : Execution) (handed : Opti
   pub fires : Fires leaf old.machine new.machine p handed
   pub rest : new ≡ record old { machine = new.machine; kept = kept_with p (Some kind) old.kept }
 
--- how an execution ends that stands so, and has no pick left, where the modules of this tree name its trap
+-- the end of an execution that has no pick left; the modules of this tree name its trap
 pub record IsFinish (named : Tree) (e : Execution) (f : RunEnd) : Type 0 where
-  pub stuck : ready_list e.machine ≡ [] → (close : Ending) → MayEnd e.close close → f ≡ end_of named e.report.trap (e.earlier + e.machine.emitted) close
+  pub stuck : ready_list e.machine ≡ [] → (close : Ending) → MayEnd e.close close → f ≡ end_of named e.emitted.trap (e.earlier + e.machine.emitted) close
   pub stopped : ready_list e.machine ≢ [] → f ≡ finish.Stopped e.machine.fired e.idle
 
 -- the numbers of an execution
@@ -158,46 +150,45 @@ pub record IsInRange (e : Execution) : Type 0 where
   pub idle : e.idle < 2 ^ 63
 
 -- whatever job it executes, an execution that was fed does still, and as many picks are left
-abbrev pub FeedsOn : Option (List ℕ) → Option (List ℕ) → ℕ → ℕ → Execution → Execution → Result (Unit {0}) NoMemory → Type 0
-FeedsOn rest left before after old new (Ok done) = (job : Job) (taken : Option (List ℕ)) (faults : ℕ) → Executes job (outside rest before taken faults) old → AwaitsPick job (outside left after taken faults) new × (left_at new ≡ left_at old)
-FeedsOn rest left before after old new (Err want) =
-    (job : Job) (taken : Option (List ℕ)) (faults : ℕ) → Executes job (outside rest before taken faults) old → Ends job (outside left after taken faults) (Err fault.NoMemory)
+abbrev pub FeedsOn : (input : Change (List ℕ)) → (old new : Execution) → Result (Unit {0}) NoMemory → Type 0
+FeedsOn input old new (Ok done) = (job : Job) (output : Observation (List ℕ)) → Executes job (streams input.old output) old → AwaitsPick job (streams input.new output) new × (left_at new ≡ left_at old)
+FeedsOn input old new (Err want) = (job : Job) (output : Observation (List ℕ)) → Executes job (streams input.old output) old → Ends job (streams input.new output) (Err fault.NoMemory)
 
 -- a pick was made, and fewer are left; or none was left
-abbrev pub GoesOn : Job → Outside → Execution → Execution → Bool → Type 0
+abbrev pub GoesOn : Job → (now : Streams) → (old new : Execution) → Bool → Type 0
 GoesOn job now old new true = Executes job now new × (left_at new < left_at old)
 GoesOn job now old new false = AwaitsPick job now new × IsOver new
 
 -- whatever job it executes, with these bodies of modules, an execution that was fed and picked a process that can fire goes on by its
 -- firing
-abbrev pub FiresOn : Leaf → ℕ → Option (List ℕ) → Option (List ℕ) → ℕ → ℕ → Execution → Execution → Result (Unit {0}) RunFault → Type 0
-FiresOn leaf p taken taken' before after picked new (Ok done) =
-    (job : Job) (rest : Option (List ℕ)) (faults : ℕ) (old : Execution) → job.network.leaf ≡ leaf → AwaitsPick job (outside rest faults taken before) old → Picks old picked p → can_step picked.machine p ≡ true → GoesOn job (outside rest faults taken' after) old new true
-FiresOn leaf p taken taken' before after picked new (Err failed) =
-    (job : Job) (rest : Option (List ℕ)) (faults : ℕ) (old : Execution) → job.network.leaf ≡ leaf → AwaitsPick job (outside rest faults taken before) old → Picks old picked p → can_step picked.machine p ≡ true → Ends job (outside rest faults taken' after) (Err failed)
+abbrev pub FiresOn : Leaf → (p : ℕ) → (output : Change (List ℕ)) → (picked new : Execution) → Result (Unit {0}) RunFault → Type 0
+FiresOn leaf p output picked new (Ok done) =
+    (job : Job) (input : Observation (List ℕ)) (old : Execution) → job.network.leaf ≡ leaf → AwaitsPick job (streams input output.old) old → Picks old picked p → can_step picked.machine p ≡ true → GoesOn job (streams input output.new) old new true
+FiresOn leaf p output picked new (Err failed) =
+    (job : Job) (input : Observation (List ℕ)) (old : Execution) → job.network.leaf ≡ leaf → AwaitsPick job (streams input output.old) old → Picks old picked p → can_step picked.machine p ≡ true → Ends job (streams input output.new) (Err failed)
 
 -- whatever job it executes, with these bodies of modules, an execution that was fed makes the next pick of it, if one is left
-abbrev pub StepsOn : Leaf → Option (List ℕ) → Option (List ℕ) → ℕ → ℕ → Execution → Execution → Result Bool RunFault → Type 0
-StepsOn leaf taken taken' before after old new (Ok going) =
-    (job : Job) (rest : Option (List ℕ)) (faults : ℕ) → job.network.leaf ≡ leaf → AwaitsPick job (outside rest faults taken before) old → GoesOn job (outside rest faults taken' after) old new going
-StepsOn leaf taken taken' before after old new (Err failed) =
-    (job : Job) (rest : Option (List ℕ)) (faults : ℕ) → job.network.leaf ≡ leaf → AwaitsPick job (outside rest faults taken before) old → Ends job (outside rest faults taken' after) (Err failed)
+abbrev pub StepsOn : Leaf → (output : Change (List ℕ)) → (old new : Execution) → Result Bool RunFault → Type 0
+StepsOn leaf output old new (Ok going) =
+    (job : Job) (input : Observation (List ℕ)) → job.network.leaf ≡ leaf → AwaitsPick job (streams input output.old) old → GoesOn job (streams input output.new) old new going
+StepsOn leaf output old new (Err failed) =
+    (job : Job) (input : Observation (List ℕ)) → job.network.leaf ≡ leaf → AwaitsPick job (streams input output.old) old → Ends job (streams input output.new) (Err failed)
 
 -- some job is executed, with these bodies of modules
-pub record IsUnderWay (leaf : Leaf) (now : Outside) (e : Execution) : Type 0 where
+pub record IsUnderWay (leaf : Leaf) (now : Streams) (e : Execution) : Type 0 where
   pub job : Job
   pub leaf_is : job.network.leaf ≡ leaf
   pub executes : Executes job now e
 
 -- whatever job was executed is still
-abbrev pub LeadsOn : Leaf → Outside → Outside → Execution → Execution → Type 0
+abbrev pub LeadsOn : Leaf → (before now : Streams) → (old new : Execution) → Type 0
 LeadsOn leaf before now old new = (job : Job) → job.network.leaf ≡ leaf → Executes job before old → Executes job now new
 
 -- whatever job it executes, an execution makes all picks of it
-abbrev pub RunsOut : Leaf → Outside → Outside → Execution → Execution → Result (Unit {0}) RunFault → Type 0
+abbrev pub RunsOut : Leaf → (before now : Streams) → (old new : Execution) → Result (Unit {0}) RunFault → Type 0
 RunsOut leaf before now old new (Ok done) = (job : Job) → job.network.leaf ≡ leaf → Executes job before old → AwaitsPick job now new × IsOver new
 RunsOut leaf before now old new (Err failed) = (job : Job) → job.network.leaf ≡ leaf → Executes job before old → Ends job now (Err failed)
 
 -- whatever job it executes, with these bodies of modules and this tree to name traps, an execution comes to the end of its run
-abbrev pub Completes : Leaf → Tree → Outside → Outside → Execution → Result Ran RunFault → Type 0
+abbrev pub Completes : Leaf → (named : Tree) → (before now : Streams) → Execution → Result Ran RunFault → Type 0
 Completes leaf named before now e result = (job : Job) → job.network.leaf ≡ leaf → job.network.named ≡ named → Executes job before e → Ends job now result

@@ -1,6 +1,7 @@
--- What a stream feeds a machine with.
+-- Items that a stream gives to a machine.
 use Rattle.std.specs.Prelude.{◌≡◌, ◌≢◌, ℕ, ℤ, ◌+◌, ◌≤◌, true, List, [], ◌∷◌, ◌++◌, length, Option, Some, None, Result, Ok, Err, option_map}
 use Rattle.p3l_base.specs.declared.NoMemory.{NoMemory}
+use Rattle.p3l_io.specs.Change.{Change, Observation, change}
 use Rattle.p3l_net.specs.Machine as machine
 use Rattle.p3l_stream.specs.declared.items.Ending.{Ending}
 use Rattle.p3l_stream.specs.Answers.{IsAtEnd}
@@ -18,17 +19,17 @@ abbrev pub most_of_input : ℕ
 most_of_input = 34359738369
 
 -- items of `width` words were requested of a stream: these bytes were taken from the input, these items were given, and this ended it
-pub record Gives (width : ℕ) (rest left : Option (List ℕ)) (before now : ℕ) (s : Seen) (items : List (List ℤ)) (closed : Option (Result Ending NoMemory)) : Type 0 where
+pub record Gives (width : ℕ) (input : Change (List ℕ)) (s : Seen) (items : List (List ℤ)) (closed : Option (Result Ending NoMemory)) : Type 0 where
   pub bytes : List ℕ
   pub given : HasGiven width s bytes items
   pub limit : s.limit ≡ input_limit
   pub closed_is : s.closed ≡ closed
-  pub read : IsTaken rest left bytes
-  pub at_end : s.at_end ≡ true → IsAtEnd left
-  pub cause : GivenCause closed before now
+  pub read : IsTaken input bytes
+  pub at_end : s.at_end ≡ true → IsAtEnd input.new.content
+  pub cause : GivenCause closed input
   pub few : length items + most_items s ≤ most_of_input
 
--- how a stream stands that ended so, if it did
+-- the ending of a stream, if it ended, as the stream holds it
 abbrev pub closed_so : Option Ending → Option (Result Ending NoMemory)
 closed_so close = option_map Ok close
 
@@ -38,14 +39,14 @@ Offers m new [] = new ≡ m
 Offers m new (item ∷ items) = (m.inbox ≡ None) × (new ≡ record m { inbox = Some item }) × (items ≡ [])
 
 -- whatever a stream gave before, it gave these items more
-abbrev pub GivesMore : ℕ → Option (List ℕ) → Option (List ℕ) → ℕ → ℕ → Seen → Seen → Option Ending → List (List ℤ) → Option (Result Ending NoMemory) → Type 0
-GivesMore width rest left before now s new close more closed =
-    (first : Option (List ℕ)) (count : ℕ) (items : List (List ℤ)) → Gives width first rest count before s items (closed_so close) → Gives width first left count now new (items ++ more) closed
+abbrev pub GivesMore : ℕ → Change (List ℕ) → Seen → Seen → Option Ending → List (List ℤ) → Option (Result Ending NoMemory) → Type 0
+GivesMore width input s new close more closed =
+    (first : Observation (List ℕ)) (items : List (List ℤ)) → Gives width (change first input.old) s items (closed_so close) → Gives width (change first input.new) new (items ++ more) closed
 
 -- a machine was fed: an empty inbox was filled, as long as the stream isn't ended
-pub record Feeds (width : ℕ) (m m' : machine.Seen) (s s' : Seen) (rest left : Option (List ℕ)) (before now : ℕ) (close close' : Option Ending) : Type 0 where
+pub record Feeds (width : ℕ) (m m' : machine.Seen) (s s' : Seen) (input : Change (List ℕ)) (close close' : Option Ending) : Type 0 where
   pub more : List (List ℤ)
-  pub gives : GivesMore width rest left before now s s' close more (closed_so close')
+  pub gives : GivesMore width input s s' close more (closed_so close')
   pub offers : Offers m m' more
   pub wide : AllByRecursion (λ (words : List ℤ). length words ≡ width) more
   pub filled : close' ≡ None → m'.inbox ≢ None
@@ -54,13 +55,13 @@ pub record Feeds (width : ℕ) (m m' : machine.Seen) (s s' : Seen) (rest left : 
   pub empty : (e : Ending) → close ≡ None → close' ≡ Some e → m'.inbox ≡ None
 
 -- memory ran out for that
-pub record FeedsInVain (width : ℕ) (s s' : Seen) (rest left : Option (List ℕ)) (before now : ℕ) (close : Option Ending) : Type 0 where
+pub record FeedsInVain (width : ℕ) (s s' : Seen) (input : Change (List ℕ)) (close : Option Ending) : Type 0 where
   pub more : List (List ℤ)
   pub closed : Option (Result Ending NoMemory)
-  pub gives : GivesMore width rest left before now s s' close more closed
+  pub gives : GivesMore width input s s' close more closed
   pub wide : AllByRecursion (λ (words : List ℤ). length words ≡ width) more
   pub request : close ≡ None
 
-abbrev pub IsFed : ℕ → machine.Seen → machine.Seen → Seen → Seen → Option (List ℕ) → Option (List ℕ) → ℕ → ℕ → Option Ending → Result (Option Ending) NoMemory → Type 0
-IsFed width m m' s s' rest left before now close (Ok close') = Feeds width m m' s s' rest left before now close close'
-IsFed width m m' s s' rest left before now close (Err want) = FeedsInVain width s s' rest left before now close
+abbrev pub IsFed : ℕ → machine.Seen → machine.Seen → Seen → Seen → Change (List ℕ) → Option Ending → Result (Option Ending) NoMemory → Type 0
+IsFed width m m' s s' input close (Ok close') = Feeds width m m' s s' input close close'
+IsFed width m m' s s' input close (Err want) = FeedsInVain width s s' input close

@@ -1,4 +1,4 @@
--- What is known of every run of a network, as it is needed of a machine that goes pick by pick.
+-- Laws of every run of a network, in the form that a machine needs which runs it pick by pick.
 use Rattle.std.specs.Prelude.{◌≡◌, ◌≢◌, ℕ, ℤ, suc, Bool, true, false, ◌+◌, ◌<◌, ◌≤◌, List, [], ◌∷◌, ◌++◌, Option, Some, None, IsTrue, length}
 use Rattle.std.specs.Option.{option_to_list}
 use Rattle.p3l_base.specs.declared.outcome.Outcome.{Outcome}
@@ -6,7 +6,7 @@ use Rattle.p3l_firing.specs.Fire.{IsStuck, can_fire}
 use Rattle.p3l_net.specs.Machine.{Seen, Fires, can_step, ready_list}
 use Rattle.p3l_net.specs.Offered.{Follows, HasFilledInbox}
 use Rattle.p3l_firing.specs.Run.{Course, after_picks, course_from, picked}
-use Rattle.p3l_firing.specs.Carried.{HaveInWords}
+use Rattle.p3l_firing.specs.NetInvariants.{HaveInWords}
 use Rattle.p3l_firing.specs.Outcomes.{IsPrefixOf}
 use Rattle.p3l_firing.specs.Typed.{IsTyped}
 use Rattle.p3l_sched.specs.declared.picker.Way.{Way}
@@ -58,7 +58,7 @@ pub record Laws (n : Network) : Type 0 where
   pub counted : (items : List (List ℤ)) → HaveInWords n.tree items → (picks : List ℕ) →
       (course_under n items picks).state.sent + length (course_under n items picks).state.unsent
       ≡ (begun_with n items).sent + length (begun_with n items).unsent
-  -- what a process counts rises by one at most at each pick
+  -- the count of a process rises by one at most at each pick
   pub numbers : (c : Course) (picks : List ℕ) (p : ℕ) → ((after_picks n.tree n.leaf n.net c picks).state.own p).number ≤ (c.state.own p).number + length picks
   pub stops : (schedule : Schedule) (items : List (List ℤ)) → HaveInWords n.tree items →
       goes_on n (course_of n schedule items) ≡ true → schedule ≡ Recorded (picks_of n schedule items)
@@ -66,7 +66,7 @@ pub record Laws (n : Network) : Type 0 where
   pub finished : (items : List (List ℤ)) → HaveInWords n.tree items → (picks : List ℕ) → IsStuck n.tree n.net (course_under n items picks).state →
       (course_under n items picks).state.emitted ≡ meaning_of n items
 
--- where some process can still fire at the end of a run, its picks were recorded, and all of these were made
+-- a run at whose end some process can fire had recorded picks, and all of them were made
 abbrev pub OnlyRecordedPicksStop : Type 0
 OnlyRecordedPicksStop =
     (n : Network) (schedule : Schedule) (items : List (List ℤ)) → IsSound n → HaveInWords n.tree items →

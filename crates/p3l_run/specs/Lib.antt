@@ -7,6 +7,7 @@ pub mod Laws
 pub mod Trap
 pub mod Sum
 pub mod Keeping
+pub mod Streams
 pub mod Write
 pub mod Wants
 pub mod Feed

@@ -6,7 +6,7 @@ use Rattle.p3l_skel.specs.Item.{meaning}
 use Rattle.p3l_skel.specs.Tree.{node_at}
 use Rattle.p3l_firing.specs.declared.net.Net.{Net}
 use Rattle.p3l_firing.specs.Fire.{can_fire}
-use Rattle.p3l_firing.specs.Carried.{Carry, IsCarried}
+use Rattle.p3l_firing.specs.NetInvariants.{Invariants, HasInvariants}
 use Rattle.p3l_firing.specs.Outcomes.{IsPrefixOf}
 use Rattle.p3l_firing.specs.Run.{Course, after_picks, course_from}
 use Rattle.p3l_firing.specs.State.{State}
@@ -31,18 +31,18 @@ pub record Network : Type 0 where
 -- the net is typed for the tree, some record carries it, with this number of firings an item, and by it the run can begin where it does
 pub record IsSound (n : Network) : Type 0 where
   pub typed : IsTyped n.tree n.net
-  pub carried : (carry : Carry) × IsCarried n.tree n.leaf n.net n.firings carry
-  pub begins : CanBegin n.start n.tree n.leaf n.net carried.0
+  pub has_invariants : (invariants : Invariants) × HasInvariants n.tree n.leaf n.net n.firings invariants
+  pub begins : CanBegin n.start n.tree n.leaf n.net has_invariants.0
 
--- how many words an item has
+-- the count of words of an item
 abbrev pub width_of : Network → ℕ
 width_of n = (node_at n.tree 0).ins
 
--- how many processes there are
+-- the count of processes
 abbrev pub size_of : Network → ℕ
 size_of n = length n.net.procs
 
--- what the items come to, with no process and no channel, after what was in the net
+-- the outcomes of the items, with no process and no channel, after those of the tokens that were in the net
 abbrev pub meaning_of : Network → List (List ℤ) → List Outcome
 meaning_of n items = outcomes_from n.start (meaning n.tree n.leaf items)
 
@@ -108,6 +108,6 @@ network_named named tree leaf net firings =
 abbrev pub network : Tree → (ℕ → List ℤ → Outcome) → Net → ℕ → Network
 network tree leaf net firings = network_named tree tree leaf net firings
 
--- a network whose runs go on from what was saved of another
+-- a network whose runs continue from what was saved of another
 abbrev pub resumed : Resumption → Network → Network
 resumed r n = record n { start = saved r }

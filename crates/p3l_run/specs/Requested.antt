@@ -1,9 +1,9 @@
--- How many items of a stream were requested before picks.
+-- Counts of items that were requested of a stream before picks.
 use Rattle.std.specs.Prelude.{◌≡◌, ℕ, ℤ, ◌+◌, ◌-◌, List, [], ◌∷◌, ◌++◌, length, take, Option, Some, None}
 use Rattle.p3l_stream.specs.declared.items.Ending.{Ending}
 use Rattle.p3l_run.specs.Network.{Network, course_under}
 
--- how many items are sent before the last of some picks
+-- the count of items that are sent before the last of some picks
 abbrev pub sent_before_last : Network → List (List ℤ) → List ℕ → ℕ
 sent_before_last n items picks = (course_under n items (take (length picks - 1) picks)).state.sent
 

@@ -1,11 +1,11 @@
--- Runs that go on from what was saved of others.
+-- Runs that continue from snapshots.
 use Rattle.std.specs.Prelude.{◌≡◌, ◌<◌, ◌^◌}
-use Rattle.p3l_net.specs.declared.shot.Shot.{Shot}
+use Rattle.p3l_firing.specs.declared.shot.Shot.{Shot}
 use Rattle.p3l_run.specs.Feed.{most_of_input}
 use Rattle.p3l_run.specs.Network.{IsSound, Network, resumed}
 use Rattle.p3l_run.specs.Start.{Resumption, most_from, saved}
 
--- this is what a network that is resumed from a shot has to go on from: its runs can begin there, and however many items come, their
+-- a network that is resumed from a shot continues from this: its runs can begin there, and however many items come, their
 -- firings can be counted
 pub record IsResumedBy (n : Network) (shot : Shot) (r : Resumption) : Type 0 where
   pub shot_is : r.shot ≡ shot

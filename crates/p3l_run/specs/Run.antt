@@ -1,12 +1,13 @@
--- How a run ends: what was written, and its numbers.
+-- Ends of runs: the text that was written, and the numbers.
 use Rattle.std.specs.Prelude.{◌≡◌, ◌≤◌, ℕ, ℤ, ◌+◌, List, [], ◌++◌, cond, length, Option, Some, None, Result, Ok, Err, slice_index_or}
 use Rattle.p3l_base.specs.declared.NoMemory.{NoMemory}
 use Rattle.p3l_base.specs.declared.outcome.Outcome.{Outcome}
 use Rattle.p3l_base.specs.declared.outcome.Trap.{Trap}
 use Rattle.p3l_skel.specs.declared.tree.Tree.{Tree}
 use Rattle.p3l_skel.specs.Tree.{no_module}
-use Rattle.p3l_firing.specs.Carried.{HaveInWords}
+use Rattle.p3l_firing.specs.NetInvariants.{HaveInWords}
 use Rattle.p3l_firing.specs.Run.{Course}
+use Rattle.p3l_io.specs.Change.{Change}
 use Rattle.p3l_run.specs.declared.end.RunStats.{RunStats}
 use Rattle.p3l_run.specs.declared.end.RunEnd.{RunEnd}
 use Rattle.p3l_run.specs.declared.end.RunEnd.TheVariants as finish
@@ -31,13 +32,13 @@ use Rattle.p3l_run.specs.Write.{HasBegun, HasPut}
 abbrev pub module_name : Tree → ℕ → List ℕ
 module_name tree k = (slice_index_or tree.modules k no_module).name
 
--- how a run ends in which no process can fire, and whose stream ended so: by the trap that was emitted last, if there is one, for the
+-- the end of a run in which no process can fire, and whose stream ended so: the trap that was emitted last, if there is one, for the
 -- item of this number, which a module of this tree names
 abbrev pub end_of : Tree → Option Trap → ℕ → Ending → RunEnd
 end_of tree None emitted close = finish.Stream close
 end_of tree (Some trap) emitted close = finish.Trapped emitted trap.kind (module_name tree trap.module)
 
--- how a run ends that stands so, and whose stream ended so: it was stopped where some process can fire
+-- the end of a run that stands so, and whose stream ended so: it was stopped if some process can fire
 abbrev pub finish_of : Network → Course → Ending → RunEnd
 finish_of n c close =
     cond (goes_on n c) (finish.Stopped c.fired c.idle)
@@ -62,15 +63,15 @@ pub record IsTraceOf (n : Network) (schedule : Schedule) (items : List (List ℤ
 -- a run came to its end: the text of what the network emits was written, on the items that the stream gave and whatever may
 -- still come after them, and it ended as that run does; its lines are that run's trace, where they were to be kept, and its sum
 -- is that of the words that were emitted
-pub record Finishes (n : Network) (schedule : Schedule) (keeping : Keeping) (rest left : Option (List ℕ)) (before now : ℕ) (taken taken' : Option (List ℕ)) (end : Ran) : Type 0 where
+pub record Finishes (n : Network) (schedule : Schedule) (keeping : Keeping) (input output : Change (List ℕ)) (end : Ran) : Type 0 where
   pub stream : Seen
   pub items : List (List ℤ)
   pub close : Option Ending
-  pub gives : Gives (width_of n) rest left before now stream items (closed_so close)
+  pub gives : Gives (width_of n) input stream items (closed_so close)
   -- of those that were given one at most was not sent: none was requested but where the inbox was empty
   pub requested : (begun_with n items).sent + length items ≤ end.stats.items + 1
   pub outcomes : List Outcome
-  pub put : HasPut taken taken' (text_of outcomes)
+  pub put : HasPut output (text_of outcomes)
   pub ran : (later : List (List ℤ)) → MayCome n close later → IsRunOn n schedule (items ++ later) outcomes end.stats
   pub ends : (later : List (List ℤ)) → MayCome n close later → (e : Ending) → MayEnd close e → end.finish ≡ finish_of n (course_of n schedule (items ++ later)) e
   pub closed : (e : Ending) → end.finish ≡ finish.Stream e → close ≡ Some e
@@ -86,15 +87,15 @@ pub record MayFollow (n : Network) (closed : Option (Result Ending NoMemory)) (l
 
 -- a run ended early: a prefix of the text of the meaning of the items that the stream gave was written, and no more than the network
 -- emits under the schedule on these items and whatever may still come after them
-pub record Starts (n : Network) (schedule : Schedule) (rest left : Option (List ℕ)) (before now : ℕ) (taken taken' : Option (List ℕ)) : Type 0 where
+pub record Starts (n : Network) (schedule : Schedule) (input output : Change (List ℕ)) : Type 0 where
   pub stream : Seen
   pub items : List (List ℤ)
   pub closed : Option (Result Ending NoMemory)
-  pub gives : Gives (width_of n) rest left before now stream items closed
-  pub begun : HasBegun taken taken' (text_of (meaning_of n items))
-  pub emits : (later : List (List ℤ)) → MayFollow n closed later → HasBegun taken taken' (text_of (course_of n schedule (items ++ later)).state.emitted)
+  pub gives : Gives (width_of n) input stream items closed
+  pub begun : HasBegun output (text_of (meaning_of n items))
+  pub emits : (later : List (List ℤ)) → MayFollow n closed later → HasBegun output (text_of (course_of n schedule (items ++ later)).state.emitted)
 
--- how a run ends
-abbrev pub IsRunEnd : Network → Schedule → Keeping → Option (List ℕ) → Option (List ℕ) → ℕ → ℕ → Option (List ℕ) → Option (List ℕ) → Result Ran RunFault → Type 0
-IsRunEnd n schedule keeping rest left before now taken taken' (Ok ran) = Finishes n schedule keeping rest left before now taken taken' ran
-IsRunEnd n schedule keeping rest left before now taken taken' (Err fault) = Starts n schedule rest left before now taken taken'
+-- the end of a run
+abbrev pub IsRunEnd : Network → Schedule → Keeping → (input output : Change (List ℕ)) → Result Ran RunFault → Type 0
+IsRunEnd n schedule keeping input output (Ok ran) = Finishes n schedule keeping input output ran
+IsRunEnd n schedule keeping input output (Err fault) = Starts n schedule input output

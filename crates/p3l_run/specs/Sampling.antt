@@ -1,10 +1,10 @@
 -- A tree profiled on the items of an input.
-use Rattle.std.specs.Prelude.{◌≡◌, ◌≢◌, ℕ, ℤ, ◌+◌, List, [], ◌∷◌, ◌++◌, length, Option, Some, None, Result, Ok, Err}
+use Rattle.std.specs.Prelude.{◌≡◌, ℕ, ℤ, ◌+◌, List, [], ◌∷◌, ◌++◌, length, Some, None, Ok}
 use Rattle.std.specs.List.{AllByRecursion}
-use Rattle.p3l_base.specs.declared.NoMemory.{NoMemory}
 use Rattle.p3l_base.specs.declared.outcome.Outcome.{Outcome}
 use Rattle.p3l_base.specs.declared.outcome.Outcome.TheVariants.{Value, Trapped}
 use Rattle.p3l_base.specs.declared.outcome.TrapKind.{TrapKind}
+use Rattle.p3l_io.specs.Change.{Change}
 use Rattle.p3l_skel.specs.declared.tree.Tree.{Tree}
 use Rattle.p3l_skel.specs.Item.{item}
 use Rattle.p3l_skel.specs.Tree.{node_at}
@@ -32,30 +32,30 @@ pub record IsNoted (tree : Tree) (served : Served) (before now : Greatest) (item
   pub noted : now ≡ noted_all before (notes_of tree served items)
 
 -- a stream gave `count` items, and is open
-pub record GivesOn (tree : Tree) (served : Served) (start g : Greatest) (rest left : Option (List ℕ)) (before now : ℕ) (s : Seen) (count : ℕ) : Type 0 where
+pub record GivesOn (tree : Tree) (served : Served) (start g : Greatest) (input : Change (List ℕ)) (s : Seen) (count : ℕ) : Type 0 where
   pub items : List (List ℤ)
-  pub gives : Gives (node_at tree 0).ins rest left before now s items None
+  pub gives : Gives (node_at tree 0).ins input s items None
   pub noted : IsNoted tree served start g items
   pub counted : count ≡ length items
 
 -- all items of the stream were noted, and it ended so
-pub record EndsSo (tree : Tree) (served : Served) (start g : Greatest) (rest left : Option (List ℕ)) (before now : ℕ) (close : Ending) : Type 0 where
+pub record EndsSo (tree : Tree) (served : Served) (start g : Greatest) (input : Change (List ℕ)) (close : Ending) : Type 0 where
   pub s : Seen
   pub items : List (List ℤ)
-  pub gives : Gives (node_at tree 0).ins rest left before now s items (Some (Ok close))
+  pub gives : Gives (node_at tree 0).ins input s items (Some (Ok close))
   pub noted : IsNoted tree served start g items
 
 -- the item of this number, from 1, has this trap, and none before it has one
-pub record TrapsAt (tree : Tree) (served : Served) (rest left : Option (List ℕ)) (before now : ℕ) (number : ℕ) (kind : TrapKind) (home : ℕ) : Type 0 where
+pub record TrapsAt (tree : Tree) (served : Served) (input : Change (List ℕ)) (number : ℕ) (kind : TrapKind) (home : ℕ) : Type 0 where
   pub s : Seen
   pub items : List (List ℤ)
   pub words : List ℤ
-  pub gives : Gives (node_at tree 0).ins rest left before now s (items ++ words ∷ []) None
+  pub gives : Gives (node_at tree 0).ins input s (items ++ words ∷ []) None
   pub values : HaveValues tree served items
   pub traps : item tree (leaf served) 0 words ≡ Trapped (record { kind = kind; «module» = home })
   pub number_is : number ≡ length items + 1
 
--- how a profile of an input ends
-abbrev pub IsSampled : Tree → Served → Greatest → Greatest → Option (List ℕ) → Option (List ℕ) → ℕ → ℕ → Sampled → Type 0
-IsSampled tree served start g rest left before now (sampled.Stream close) = EndsSo tree served start g rest left before now close
-IsSampled tree served start g rest left before now (sampled.Trapped number kind home) = TrapsAt tree served rest left before now number kind home
+-- the end of a profile of an input
+abbrev pub IsSampled : Tree → Served → (start g : Greatest) → (input : Change (List ℕ)) → Sampled → Type 0
+IsSampled tree served start g input (sampled.Stream close) = EndsSo tree served start g input close
+IsSampled tree served start g input (sampled.Trapped number kind home) = TrapsAt tree served input number kind home

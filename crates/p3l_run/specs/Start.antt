@@ -1,4 +1,4 @@
--- Where a run begins: with nothing fired, or in a state that was saved of another run.
+-- Beginnings of runs: with nothing fired, or in a state that was saved of another run.
 use Rattle.std.specs.Prelude.{◌≡◌, ℕ, ℤ, ◌+◌, ◌*◌, ◌≤◌, true, List, [], ◌++◌, length, map}
 use Rattle.std.specs.Option.{option_to_list}
 use Rattle.p3l_base.specs.declared.outcome.Outcome.{Outcome}
@@ -6,14 +6,14 @@ use Rattle.p3l_skel.specs.declared.tree.Tree.{Tree}
 use Rattle.p3l_skel.specs.Item.{item}
 use Rattle.p3l_firing.specs.declared.net.Net.{Net}
 use Rattle.p3l_firing.specs.Nodes.{Leaf}
-use Rattle.p3l_firing.specs.Carried.{Carry, HaveInWords}
-use Rattle.p3l_net.specs.Machine.{Seen, started, state_of}
+use Rattle.p3l_firing.specs.NetInvariants.{Invariants, HaveInWords}
 use Rattle.p3l_firing.specs.Outcomes.{up_to_first_trap}
-use Rattle.p3l_net.specs.Shot.{CanRestore, restored}
 use Rattle.p3l_firing.specs.State.{State, first_state, with_rest}
-use Rattle.p3l_net.specs.declared.shot.Shot.{Shot}
+use Rattle.p3l_firing.specs.declared.shot.Shot.{Shot}
+use Rattle.p3l_net.specs.Machine.{Seen, started, state_of}
+use Rattle.p3l_net.specs.Shot.{CanRestore, restored}
 
--- what was saved of a run; the outcomes that are to come of the tokens in it and of the item in its inbox; and how often the net can
+-- the saved state of a run; the outcomes that are to come of the tokens in it and of the item in its inbox; and how often the net can
 -- fire for these tokens at most
 pub record Resumption : Type 0 where
   pub shot : Shot
@@ -24,7 +24,7 @@ pub data Start : Type 0 where
   fresh : Start
   saved : Resumption → Start
 
--- a shot as the run that goes on from it begins: it counts the outcomes that it emits itself
+-- a shot as the run that continues from it begins: it counts only the outcomes that it emits itself
 abbrev pub uncounted : Shot → Shot
 uncounted shot = record shot { emitted = 0 }
 
@@ -59,15 +59,15 @@ abbrev pub item_number : Start → ℕ → ℕ
 item_number fresh k = k
 item_number (saved r) k = r.shot.emitted + k
 
--- a run can go on from what was saved, whatever items come then: a machine can be restored from it, it is orderly, and this is what is
+-- a run can continue from what was saved, whatever items come then: a machine can be restored from it, it is orderly, and this is what is
 -- to come of it
-pub record GoesOn (r : Resumption) (tree : Tree) (leaf : Leaf) (net : Net) (carry : Carry) : Type 0 where
+pub record GoesOn (r : Resumption) (tree : Tree) (leaf : Leaf) (net : Net) (invariants : Invariants) : Type 0 where
   pub restores : CanRestore tree net r.shot
-  pub orderly : (items : List (List ℤ)) → HaveInWords tree items → carry.orderly (state_from (saved r) tree net items) ≡ true
+  pub orderly : (items : List (List ℤ)) → HaveInWords tree items → invariants.orderly (state_from (saved r) tree net items) ≡ true
   pub ahead : (items : List (List ℤ)) → HaveInWords tree items →
-      carry.to_come (state_from (saved r) tree net items) ++ map (item tree leaf 0) (option_to_list r.shot.inbox) ≡ r.ahead
-  pub owed : (items : List (List ℤ)) → HaveInWords tree items → carry.owed (state_from (saved r) tree net items) ≤ r.owed
+      invariants.to_come (state_from (saved r) tree net items) ++ map (item tree leaf 0) (option_to_list r.shot.inbox) ≡ r.ahead
+  pub owed : (items : List (List ℤ)) → HaveInWords tree items → invariants.owed (state_from (saved r) tree net items) ≤ r.owed
 
-abbrev pub CanBegin : Start → Tree → Leaf → Net → Carry → Type 0
-CanBegin fresh tree leaf net carry = Unit {0}
-CanBegin (saved r) tree leaf net carry = GoesOn r tree leaf net carry
+abbrev pub CanBegin : Start → Tree → Leaf → Net → Invariants → Type 0
+CanBegin fresh tree leaf net invariants = Unit {0}
+CanBegin (saved r) tree leaf net invariants = GoesOn r tree leaf net invariants

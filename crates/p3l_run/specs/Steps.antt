@@ -1,7 +1,7 @@
 -- A machine that runs a network pick by pick, on items that come from a stream.
 use Rattle.std.specs.Prelude.{◌≡◌, ℕ, ℤ, ◌+◌, ◌-◌, ◌≤◌, List, ◌++◌, length, Option}
 use Rattle.p3l_base.specs.declared.outcome.Outcome.{Outcome}
-use Rattle.p3l_firing.specs.Carried.{HaveInWords}
+use Rattle.p3l_firing.specs.NetInvariants.{HaveInWords}
 use Rattle.p3l_net.specs.Machine.{Seen}
 use Rattle.p3l_net.specs.Offered.{Follows}
 use Rattle.p3l_sched.specs.declared.picker.Way.{Way}
@@ -16,7 +16,7 @@ use Rattle.p3l_run.specs.Laws.{Runs}
 use Rattle.p3l_run.specs.Network.{Network, begun_with, course_under, most_firings, picks_of, size_of}
 use Rattle.p3l_run.specs.Run.{MayCome}
 
--- how many picks are left: those recorded, or else one for each firing up to `bound`
+-- the count of picks that are left: those recorded, or else one for each firing up to `bound`
 abbrev pub left_of : ℕ → ℕ → Way → ℕ
 left_of bound fired (way.Reads picks) = length picks
 left_of bound fired w = bound - fired
@@ -30,7 +30,7 @@ pub record IsAt (n : Network) (schedule : Schedule) (m : Seen) (way : Way) (item
       trace.picks_of walked ++ picks_from n.tree n.leaf n.net (left_of (most_firings n items) m.fired way) way (course_under n items (trace.picks_of walked)) ≡ picks_of n schedule items
   pub agree : trace.AllAgree n.tree n.leaf n.net (begun_with n items) walked
 
--- how many recorded picks are left
+-- the count of recorded picks that are left
 abbrev pub unread : Way → ℕ
 unread (way.Reads picks) = length picks
 unread w = 0

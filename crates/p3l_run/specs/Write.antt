@@ -1,23 +1,23 @@
--- What the writing of a text does to the output, where it reports what it took, and to its count of faults.
-use Rattle.std.specs.Prelude.{◌≡◌, ℕ, List, ◌++◌, Option, Some, None, Result, Ok, Err}
-use Rattle.p3l_io.specs.Causes.{Rose}
+-- Effects of writing a text: on the content of the output, where that is known, and on its count of faults.
+use Rattle.std.specs.Prelude.{◌≡◌, ℕ, List, ◌++◌, Result, Ok, Err}
+use Rattle.p3l_io.specs.Change.{Change, HasRisen, HasSameFaults}
+use Rattle.p3l_io.specs.Content.{Puts}
 use Rattle.p3l_run.specs.declared.fault.RunFault.{RunFault}
 use Rattle.p3l_run.specs.declared.fault.RunFault.TheVariants as fault
 
--- the text was written
-abbrev pub HasPut : Option (List ℕ) → Option (List ℕ) → List ℕ → Type 0
-HasPut None new text = new ≡ None
-HasPut (Some taken) new text = new ≡ Some (taken ++ text)
+-- the text was written, as by one put
+abbrev pub HasPut : (output : Change (List ℕ)) → (text : List ℕ) → Type 0
+HasPut output text = Puts output (Ok tt) text
 
 -- a prefix of the text was written
-pub record HasBegun (old new : Option (List ℕ)) (text : List ℕ) : Type 0 where
+pub record HasBegun (output : Change (List ℕ)) (text : List ℕ) : Type 0 where
   pub written : List ℕ
   pub more : List ℕ
-  pub put : HasPut old new written
+  pub put : HasPut output written
   pub text_is : written ++ more ≡ text
 
--- how the count of faults of the output goes: it rises exactly by a fault
-abbrev pub WriteCause : {T : Type 0} → ℕ → ℕ → Result T RunFault → Type 0
-WriteCause before now (Ok done) = now ≡ before
-WriteCause before now (Err fault.Write) = Rose before now
-WriteCause before now (Err fault.NoMemory) = now ≡ before
+-- the count of faults of the output rises exactly by a fault of writing
+abbrev pub WriteCause : {T : Type 0} → (output : Change (List ℕ)) → Result T RunFault → Type 0
+WriteCause output (Ok done) = HasSameFaults output
+WriteCause output (Err fault.Write) = HasRisen output
+WriteCause output (Err fault.NoMemory) = HasSameFaults output

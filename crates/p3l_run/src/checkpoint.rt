@@ -3,15 +3,17 @@
 ghost use Rattle.std.specs.Prelude.{◌≡◌, ◌<◌, ◌≤◌, ◌+◌, ◌*◌, ◌^◌, None, OnErr, false, length, IfErr};
 ghost use Rattle.p3l_base.specs.Memory.{IfGiven, Refused};
 ghost use Rattle.std.specs.Option.{option_to_list};
-ghost use Rattle.p3l_net.specs.Shot.{IsCountable, shot_of};
+ghost use Rattle.p3l_firing.specs.Shot.{IsCountable};
+ghost use Rattle.p3l_io.specs.Change.{change};
+ghost use Rattle.p3l_net.specs.Shot.{shot_of};
 ghost use Rattle.p3l_sched.specs.Picker.{NamesProcesses};
 ghost use Rattle.p3l_sched.specs.declared.schedule.Schedule.TheVariants as schedule;
 ghost use Rattle.p3l_skel.specs.Tree.{node_at};
 ghost use Rattle.p3l_run.specs.Checkpoint.{IsCheckpointEnd};
-ghost use Rattle.p3l_run.specs.Execution.{outside};
 ghost use Rattle.p3l_run.specs.Feed.{most_of_input};
 ghost use Rattle.p3l_run.specs.Network.{IsSound, network};
 ghost use Rattle.p3l_run.specs.Replay.{ComesTo, FillsOn, HaltsOn, IsHalted, IsToReplay, MakesOn, Saves, cut_of};
+ghost use Rattle.p3l_run.specs.Streams.{streams};
 ghost use Rattle.p3l_run.specs.Wants.{Wants};
 ghost use Rattle.p3l_run.specs.Write.{WriteCause};
 
@@ -37,13 +39,13 @@ use std::alloc::Global;
 #[derive(Debug, Drop)]
 pub struct Checkpoint {
     pub shot: Shot,
-    /// How many items the stream gave.
+    /// The count of items that the stream gave.
     pub items: u64,
-    /// How many of the recorded picks were made.
+    /// The count of recorded picks that were made.
     pub picks: u64,
 }
 
-/// How a run came to its checkpoint.
+/// The end of a run to a checkpoint.
 #[derive(Debug, Drop)]
 pub enum CheckpointEnd {
     /// The picks were ended, or the stream had no item for the next of them: the state was saved.
@@ -57,8 +59,8 @@ impl<'t> Execution<'t> {
     fn fill<S: Source>(&mut self, alloc: Global, input: &mut S) -> Result<(), NoMemory>
         requires wide { self.old.stream.words ≡ (node_at self.old.machine.tree 0).ins }
         requires open { self.old.close ≡ None → self.old.stream.closed ≡ None }
-        ensures fills { FillsOn (S.rest input.old) (S.rest input.new) (S.faults input.old)
-            (S.faults input.new) self.old self.new result }
+        ensures fills { FillsOn (change (S.observed input.old) (S.observed input.new))
+            self.old self.new result }
         ensures wants { OnErr result Refused }
     {
         self.close = feed(
@@ -85,16 +87,16 @@ impl<'t> Execution<'t> {
         requires few { self.old.machine.fired + self.old.idle < 2 ^ 63 }
         requires tree { tree.now ≡ self.old.machine.tree }
         requires units { U.tree units.now ≡ tree.now }
-        ensures makes { MakesOn (U.leaf units.now) process (K.taken out.old) (K.taken out.new)
-            (K.faults out.old) (K.faults out.new) self.old self.new result }
+        ensures makes { MakesOn (U.leaf units.now) process
+            (change (K.observed out.old) (K.observed out.new)) self.old self.new result }
         ensures wants { IfErr result (Wants U.may_want) }
     {
         if !self.machine.can_step(process) {
             self.pass(process)?;
             return Ok(());
         }
-        let emitted = self.fire(alloc, tree, units, process)?;
-        self.report = write_emitted(alloc, emitted, self.report, out)?;
+        let outcome = self.fire(alloc, tree, units, process)?;
+        self.emitted = write_emitted(alloc, outcome, self.emitted, out)?;
         Ok(())
     }
 
@@ -112,16 +114,16 @@ impl<'t> Execution<'t> {
         requires tree { tree.now ≡ self.old.machine.tree }
         requires units { U.tree units.now ≡ tree.now }
         requires replay { IsToReplay (U.leaf units.now) picks.now
-            (outside (S.rest input.old) (S.faults input.old) (K.taken out.old) (K.faults out.old))
+            (streams (S.observed input.old) (K.observed out.old))
             self.old }
         ensures halts { HaltsOn (U.leaf units.now) picks.now
-            (outside (S.rest input.old) (S.faults input.old) (K.taken out.old) (K.faults out.old))
-            (outside (S.rest input.new) (S.faults input.new) (K.taken out.new) (K.faults out.new))
+            (streams (S.observed input.old) (K.observed out.old))
+            (streams (S.observed input.new) (K.observed out.new))
             self.old self.new result }
         ensures wants { IfErr result (Wants U.may_want) }
     {
         for process in picks {
-            if self.report.trap.is_some() {
+            if self.emitted.trap.is_some() {
                 return Ok(());
             }
             self.fill(alloc, input)?;
@@ -133,7 +135,7 @@ impl<'t> Execution<'t> {
         Ok(())
     }
 
-    /// How many items the stream gave: those that were sent, and the one in the inbox.
+    /// The count of items that the stream gave: those that were sent, and the one in the inbox.
     fn items(&self) -> u64
         requires { self.now.machine.sent < 2 ^ 63 }
         ensures { result ≡ self.now.machine.sent
@@ -148,7 +150,7 @@ impl<'t> Execution<'t> {
 
     /// Saves the state, with the numbers of items and picks.
     fn save(&self, alloc: Global) -> Result<Checkpoint, NoMemory>
-        requires calm { self.now.machine.trapped ≡ false }
+        requires untrapped { self.now.machine.trapped ≡ false }
         requires sent { self.now.machine.sent < 2 ^ 63 }
         requires countable { IsCountable (shot_of self.now.machine) }
         requires few { self.now.machine.fired + self.now.idle < 2 ^ 63 }
@@ -162,17 +164,17 @@ impl<'t> Execution<'t> {
         })
     }
 
-    /// How a run ends that goes no further: by its trap, as its stream did, or with its state saved;
-    /// the modules of a tree name its trap.
+    /// The end of a run that goes no further: its trap, the ending of its stream, or its saved
+    /// state. The modules of a tree name its trap.
     fn into_checkpoint(self, alloc: Global, named: &Tree) -> Result<CheckpointEnd, NoMemory>
         requires { IsHalted self }
         ensures { IfGiven result (ComesTo named.now self.entry) }
     {
-        if self.report.trap.is_some() {
+        if self.emitted.trap.is_some() {
             let finish = finish_with(
                 alloc,
                 named,
-                self.report.trap,
+                self.emitted.trap,
                 self.machine.emitted(),
                 self.close,
             )?;
@@ -186,7 +188,7 @@ impl<'t> Execution<'t> {
     }
 }
 
-/// How a stream ended, if that is no end of the input.
+/// The ending of a stream, if it ended before the input did.
 fn cut_off(close: Option<Ending>) -> Option<Ending>
     ensures { result ≡ cut_of close }
 {
@@ -197,12 +199,12 @@ fn cut_off(close: Option<Ending>) -> Option<Ending>
     }
 }
 
-/// Runs a network on the items of the input under recorded picks, writes each value as it comes out,
-/// and saves the state that they lead to.
+/// Runs a network on the items of the input under recorded picks, writes each value as it comes
+/// out, and saves the state that they lead to.
 ///
-/// Before each pick an empty inbox is filled from the stream, so that the source has an item at each; a
-/// pick that can't fire is idle. The run ends where the picks are ended, where the stream ends in place
-/// of an item, or where a trap was emitted.
+/// Before each pick an empty inbox is filled from the stream, so that the source has an item at
+/// each; a pick that can't fire is idle. The run ends where the picks are ended, where the stream
+/// ends in place of an item, or where a trap was emitted.
 pub fn run_to_checkpoint<U: Units, S: Source, K: Sink>(
     alloc: Global,
     plan: Plan<'_, U>,
@@ -219,9 +221,9 @@ pub fn run_to_checkpoint<U: Units, S: Source, K: Sink>(
     requires few { length picks < 2 ^ 63 }
     ensures ends { IsCheckpointEnd (network plan.entry.tree.now (U.leaf plan.entry.units.now)
         plan.entry.net plan.entry.firings) picks
-        (S.rest input.old) (S.rest input.new) (S.faults input.old) (S.faults input.new)
-        (K.taken out.old) (K.taken out.new) result }
-    ensures output { WriteCause (K.faults out.old) (K.faults out.new) result }
+        (change (S.observed input.old) (S.observed input.new))
+        (change (K.observed out.old) (K.observed out.new)) result }
+    ensures output { WriteCause (change (K.observed out.old) (K.observed out.new)) result }
     ensures wants { IfErr result (Wants U.may_want) }
 {
     laws();

@@ -2,9 +2,10 @@
 
 ghost use Rattle.std.specs.Prelude.{◌≡◌, ◌<◌, ◌≤◌, ◌^◌, None, length, true};
 ghost use Rattle.p3l_base.specs.Memory.{IfGiven, IfGivenOr, OnGiven, OnGivenOr};
+ghost use Rattle.p3l_io.specs.Change.{change};
 ghost use Rattle.p3l_firing.specs.Typed.{IsTyped};
 ghost use Rattle.p3l_skel.specs.Tree.{node_at};
-ghost use Rattle.p3l_run.specs.Comparison.{FeedsOn, IsUnderWay, PassesOn, Steps, outside, started};
+ghost use Rattle.p3l_run.specs.Comparison.{FeedsOn, IsUnderWay, PassesOn, Steps, started};
 
 use crate::feed::{INPUT_LIMIT, feed};
 use p3l_base::NoMemory;
@@ -20,7 +21,7 @@ use std::alloc::Global;
 pub(crate) struct Comparison<'t> {
     machine: Machine<'t>,
     stream: Lines,
-    /// How the stream ended, if it did.
+    /// The ending of the stream, once it has ended.
     pub(crate) close: Option<Ending>,
 }
 
@@ -55,11 +56,9 @@ impl<'t> Comparison<'t> {
     ) -> Result<bool, NoMemory>
         requires tree { tree.now ≡ self.old.machine.tree }
         requires units { U.tree units.now ≡ tree.now }
-        requires network { IsUnderWay (U.leaf units.now)
-            (outside (S.rest input.old) (S.faults input.old)) self.old }
+        requires network { IsUnderWay (U.leaf units.now) (S.observed input.old) self.old }
         ensures { IfGivenOr result (PassesOn (U.leaf units.now)
-            line.now (outside (S.rest input.old) (S.faults input.old))
-            (outside (S.rest input.new) (S.faults input.new)) self.old self.new)
+            line.now (change (S.observed input.old) (S.observed input.new)) self.old self.new)
             (U.may_want ≡ true) }
     {
         self.feed(alloc, input)?;
@@ -74,8 +73,8 @@ impl<'t> Comparison<'t> {
     fn feed<S: Source>(&mut self, alloc: Global, input: &mut S) -> Result<(), NoMemory>
         requires wide { self.old.stream.words ≡ (node_at self.old.machine.tree 0).ins }
         requires open { self.old.close ≡ None → self.old.stream.closed ≡ None }
-        ensures { OnGiven result (FeedsOn (outside (S.rest input.old) (S.faults input.old))
-            (outside (S.rest input.new) (S.faults input.new)) self.old self.new) }
+        ensures { OnGiven result (FeedsOn (change (S.observed input.old) (S.observed input.new))
+            self.old self.new) }
     {
         self.close = feed(
             alloc,

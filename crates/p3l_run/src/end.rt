@@ -1,9 +1,9 @@
-// How a run came to its end, and its numbers.
+// The end of a run, and its numbers.
 
 use p3l_base::{Name, TrapKind};
 use p3l_stream::Ending;
 
-/// How a run came to its end.
+/// The end of a run.
 #[derive(Debug, Drop)]
 pub enum RunEnd {
     /// The recorded picks ended while some process could fire.
@@ -24,12 +24,12 @@ pub enum RunEnd {
 /// The numbers of a run.
 #[derive(Clone, Copy, Debug, Drop, PartialEq, Eq)]
 pub struct RunStats {
-    /// How many items the source process has sent, counted from the first one of all where the run
-    /// went on from a state that was saved.
+    /// The count of items that the source process has sent. A run that continues from a snapshot
+    /// counts those of the runs before it too.
     pub items: u64,
-    /// How many firings there were.
+    /// The count of firings.
     pub fired: u64,
-    /// How many picks could not fire.
+    /// The count of picks that could not fire.
     pub idle: u64,
     /// The bound on the firings: the items, each with the firings that it can need.
     pub bound: u128,

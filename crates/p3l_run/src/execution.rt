@@ -2,14 +2,16 @@
 
 ghost use Rattle.std.specs.Prelude.{◌≡◌, ◌≢◌, ◌<◌, ◌≤◌, ◌+◌, ◌^◌, [], None, Some, length, IfOk, IsNone, IsSome, IsTrue, OnErr, OnOk, true, IfErr};
 ghost use Rattle.p3l_base.specs.Memory.{IfGiven, IfGivenOr, OnGiven, OnGivenOr, Refused};
+ghost use Rattle.p3l_io.specs.Change.{change};
 ghost use Rattle.p3l_firing.specs.Process.{kind_at};
 ghost use Rattle.p3l_net.specs.Machine.{can_step, ready_list};
 ghost use Rattle.p3l_net.specs.Steps.{OthersStay};
 ghost use Rattle.p3l_firing.specs.Typed.{IsTyped};
 ghost use Rattle.p3l_sched.specs.Picker.{HasPlace, HasProcesses};
 ghost use Rattle.p3l_skel.specs.Tree.{node_at};
+ghost use Rattle.p3l_run.specs.Streams.{streams};
 ghost use Rattle.p3l_run.specs.Wants.{Wants};
-ghost use Rattle.p3l_run.specs.Execution.{Completes, FeedsOn, FiresOn, HasFired, IsFinish, IsInRange, IsUnderWay, MayPick, RunsOut, StepsOn, after_idle, begun_on, outside, started, stats_at};
+ghost use Rattle.p3l_run.specs.Execution.{Completes, FeedsOn, FiresOn, HasFired, IsFinish, IsInRange, IsUnderWay, MayPick, RunsOut, StepsOn, after_idle, begun_on, started, stats_at};
 
 use crate::end::RunEnd;
 use crate::fault::RunFault;
@@ -17,7 +19,7 @@ use crate::feed::{INPUT_LIMIT, feed};
 use crate::finish::{finish_with, stats_of};
 use crate::keeping::{Keeping, keep, no_lines};
 use crate::run::Ran;
-use crate::write::{Report, write_emitted};
+use crate::write::{Emitted, write_emitted};
 use p3l_base::{List, NoMemory, Outcome};
 use p3l_firing::{Net, ProcKind};
 use p3l_io::{Sink, Source};
@@ -31,17 +33,17 @@ use std::alloc::Global;
 /// A run under way.
 #[derive(Drop)]
 pub(crate) struct Execution<'t> {
-    /// How often the net can fire for one item.
+    /// The most firings of the net for one item.
     pub(crate) firings: u64,
     pub(crate) machine: Machine<'t>,
-    /// How many outcomes were emitted before the run began.
+    /// The count of outcomes that were emitted before the run began.
     pub(crate) earlier: u64,
     pub(crate) stream: Lines,
     pub(crate) picker: Picker,
-    /// How the stream ended, if it did.
+    /// The ending of the stream, once it has ended.
     pub(crate) close: Option<Ending>,
-    pub(crate) report: Report,
-    /// How many picks were idle.
+    pub(crate) emitted: Emitted,
+    /// The count of idle picks.
     pub(crate) idle: u64,
     /// A line for each pick, where lines are kept.
     pub(crate) kept: Option<List<TraceLine>>,
@@ -89,13 +91,14 @@ impl<'t> Execution<'t> {
             stream: Lines::new(alloc, width, INPUT_LIMIT)?,
             picker: Picker::new(schedule),
             close: None,
-            report: Report { trap: None, sum: 0 },
+            emitted: Emitted { trap: None, sum: 0 },
             idle: 0,
             kept: no_lines(alloc, keeping),
         })
     }
 
-    /// Makes all picks that are left, and says how the run ended; the modules of a tree name its trap.
+    /// Makes all picks that are left, and says how the run ended; the modules of a tree name its
+    /// trap.
     pub(crate) fn complete<U: Units, S: Source, K: Sink>(
         mut self,
         alloc: Global,
@@ -108,12 +111,10 @@ impl<'t> Execution<'t> {
         requires tree { tree.now ≡ self.machine.tree }
         requires units { U.tree units.now ≡ tree.now }
         requires job { IsUnderWay (U.leaf units.now)
-            (outside (S.rest input.old) (S.faults input.old) (K.taken out.old) (K.faults out.old))
-            self }
+            (streams (S.observed input.old) (K.observed out.old)) self }
         ensures ends { Completes (U.leaf units.now) named.now
-            (outside (S.rest input.old) (S.faults input.old) (K.taken out.old) (K.faults out.old))
-            (outside (S.rest input.new) (S.faults input.new) (K.taken out.new) (K.faults out.new))
-            self.entry result }
+            (streams (S.observed input.old) (K.observed out.old))
+            (streams (S.observed input.new) (K.observed out.new)) self.entry result }
         ensures wants { IfErr result (Wants U.may_want) }
     {
         self.run_out(alloc, tree, units, input, out)?;
@@ -133,12 +134,10 @@ impl<'t> Execution<'t> {
         requires tree { tree.now ≡ self.old.machine.tree }
         requires units { U.tree units.now ≡ tree.now }
         requires job { IsUnderWay (U.leaf units.now)
-            (outside (S.rest input.old) (S.faults input.old) (K.taken out.old) (K.faults out.old))
-            self.old }
+            (streams (S.observed input.old) (K.observed out.old)) self.old }
         ensures runs { RunsOut (U.leaf units.now)
-            (outside (S.rest input.old) (S.faults input.old) (K.taken out.old) (K.faults out.old))
-            (outside (S.rest input.new) (S.faults input.new) (K.taken out.new) (K.faults out.new))
-            self.old self.new result }
+            (streams (S.observed input.old) (K.observed out.old))
+            (streams (S.observed input.new) (K.observed out.new)) self.old self.new result }
         ensures wants { IfErr result (Wants U.may_want) }
     {
         'picks: loop {
@@ -154,8 +153,8 @@ impl<'t> Execution<'t> {
     fn feed<S: Source>(&mut self, alloc: Global, input: &mut S) -> Result<(), NoMemory>
         requires wide { self.old.stream.words ≡ (node_at self.old.machine.tree 0).ins }
         requires open { self.old.close ≡ None → self.old.stream.closed ≡ None }
-        ensures feeds { FeedsOn (S.rest input.old) (S.rest input.new) (S.faults input.old)
-            (S.faults input.new) self.old self.new result }
+        ensures feeds { FeedsOn (change (S.observed input.old) (S.observed input.new))
+            self.old self.new result }
         ensures wants { OnErr result Refused }
     {
         if self.close.is_some() {
@@ -187,8 +186,8 @@ impl<'t> Execution<'t> {
         requires tree { tree.now ≡ self.old.machine.tree }
         requires units { U.tree units.now ≡ tree.now }
         requires range { IsInRange self.old }
-        ensures steps { StepsOn (U.leaf units.now) (K.taken out.old) (K.taken out.new) (K.faults out.old)
-            (K.faults out.new) self.old self.new result }
+        ensures steps { StepsOn (U.leaf units.now)
+            (change (K.observed out.old) (K.observed out.new)) self.old self.new result }
         ensures wants { IfErr result (Wants U.may_want) }
     {
         let Some(process) = self.pick() else {
@@ -221,12 +220,12 @@ impl<'t> Execution<'t> {
         requires count { self.old.machine.fired < 2 ^ 63 }
         requires tree { tree.now ≡ self.old.machine.tree }
         requires units { U.tree units.now ≡ tree.now }
-        ensures fires { FiresOn (U.leaf units.now) process (K.taken out.old) (K.taken out.new)
-            (K.faults out.old) (K.faults out.new) self.old self.new result }
+        ensures fires { FiresOn (U.leaf units.now) process
+            (change (K.observed out.old) (K.observed out.new)) self.old self.new result }
         ensures wants { IfErr result (Wants U.may_want) }
     {
-        let emitted = self.fire(alloc, tree, units, process)?;
-        self.report = write_emitted(alloc, emitted, self.report, out)?;
+        let outcome = self.fire(alloc, tree, units, process)?;
+        self.emitted = write_emitted(alloc, outcome, self.emitted, out)?;
         Ok(())
     }
 
@@ -299,16 +298,16 @@ impl<'t> Execution<'t> {
         Ok(fired.emitted)
     }
 
-    /// How the run ended, where no pick is left, with its numbers and what was kept of it; the modules
-    /// of a tree name its trap.
+    /// The end of the run, where no pick is left, with its numbers and the lines that were kept.
+    /// The modules of a tree name its trap.
     pub(crate) fn into_ran(self, alloc: Global, named: &Tree) -> Result<Ran, NoMemory>
         requires fits { self.earlier + self.machine.emitted < 2 ^ 64 }
-        requires ended { ready_list self.machine ≡ [] → IsNone self.report.trap
+        requires ended { ready_list self.machine ≡ [] → IsNone self.emitted.trap
             → IsSome self.close }
         ensures finish { IfGiven result (λ ran. IsFinish named.now self.entry ran.finish) }
         ensures stats { IfOk result (λ ran. ran.stats ≡ stats_at self.entry) }
         ensures lines { IfOk result (λ ran. ran.lines ≡ self.entry.kept) }
-        ensures sum { IfOk result (λ ran. ran.sum ≡ self.entry.report.sum) }
+        ensures sum { IfOk result (λ ran. ran.sum ≡ self.entry.emitted.sum) }
     {
         let finish = self.finish(alloc, named)?;
         let stats = stats_of(&self.machine, self.firings, self.idle);
@@ -316,14 +315,14 @@ impl<'t> Execution<'t> {
             finish,
             stats,
             lines: self.kept,
-            sum: self.report.sum,
+            sum: self.emitted.sum,
         })
     }
 
-    /// How the run ended, where no pick is left; the modules of a tree name its trap.
+    /// The end of the run, where no pick is left. The modules of a tree name its trap.
     fn finish(&self, alloc: Global, named: &Tree) -> Result<RunEnd, NoMemory>
         requires fits { self.now.earlier + self.now.machine.emitted < 2 ^ 64 }
-        requires ended { ready_list self.now.machine ≡ [] → IsNone self.now.report.trap
+        requires ended { ready_list self.now.machine ≡ [] → IsNone self.now.emitted.trap
             → IsSome self.now.close }
         ensures { IfGiven result (IsFinish named.now self.now) }
     {
@@ -331,7 +330,7 @@ impl<'t> Execution<'t> {
             return finish_with(
                 alloc,
                 named,
-                self.report.trap,
+                self.emitted.trap,
                 self.earlier + self.machine.emitted(),
                 self.close,
             );

@@ -2,6 +2,7 @@
 
 ghost use Rattle.std.specs.Prelude.{◌≡◌, ◌≤◌, None, OnErr};
 ghost use Rattle.p3l_base.specs.Memory.{Refused};
+ghost use Rattle.p3l_io.specs.Change.{change};
 ghost use Rattle.p3l_run.specs.Feed.{IsFed, input_limit};
 ghost use Rattle.p3l_skel.specs.Tree.{node_at};
 
@@ -26,9 +27,8 @@ pub fn feed<S: Source>(
 ) -> Result<Option<Ending>, NoMemory>
     requires wide { lines.old.words ≡ (node_at machine.old.tree 0).ins }
     requires open { close ≡ None → lines.old.closed ≡ None }
-    ensures does { IsFed (node_at machine.old.tree 0).ins machine.old machine.new lines.old lines.new
-        (S.rest input.old) (S.rest input.new) (S.faults input.old) (S.faults input.new)
-        close result }
+    ensures does { IsFed (node_at machine.old.tree 0).ins machine.old machine.new
+        lines.old lines.new (change (S.observed input.old) (S.observed input.new)) close result }
     ensures wants { OnErr result Refused }
 {
     a_stream_gives_its_items();

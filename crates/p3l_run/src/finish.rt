@@ -1,4 +1,4 @@
-// How a run came to its end.
+// The end of a run.
 
 ghost use Rattle.std.specs.Prelude.{◌≡◌, ◌*◌, IsNone, IsSome};
 ghost use Rattle.p3l_base.specs.Memory.{IfGiven};
@@ -22,8 +22,8 @@ fn name_of(alloc: Global, tree: &Tree, number: u32) -> Result<Name, NoMemory>
     }
 }
 
-/// How a run ends in which no process can fire: by the trap that was emitted, for the item of this
-/// number, and else as its stream did.
+/// The end of a run in which no process can fire: the trap that was emitted, for the item of this
+/// number, or else the ending of its stream.
 pub(crate) fn finish_with(
     alloc: Global,
     tree: &Tree,
@@ -55,7 +55,8 @@ fn product(first: u64, second: u64) -> u128
     u128::from(first) * u128::from(second)
 }
 
-/// The numbers of a run of a machine, with these idle picks and this number of firings an item at most.
+/// The numbers of a run of a machine, with these idle picks and this number of firings an item at
+/// most.
 pub(crate) fn stats_of(machine: &Machine<'_>, firings: u64, idle: u64) -> RunStats
     ensures { result
         ≡ record {

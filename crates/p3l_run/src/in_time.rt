@@ -2,11 +2,12 @@
 
 ghost use Rattle.std.specs.Prelude.{◌≡◌, ◌<◌, ◌≤◌, ◌*◌, ◌^◌, OnErr, true, IfErr};
 ghost use Rattle.p3l_base.specs.Memory.{Refused};
+ghost use Rattle.p3l_io.specs.Change.{change};
 ghost use Rattle.p3l_skel.specs.Tree.{node_at};
 ghost use Rattle.p3l_timed.specs.Price.{HasSmallPrices, prices_of};
-ghost use Rattle.p3l_run.specs.Execution.{outside};
 ghost use Rattle.p3l_run.specs.Feed.{most_of_input};
 ghost use Rattle.p3l_run.specs.Network.{IsSound, network};
+ghost use Rattle.p3l_run.specs.Streams.{streams};
 ghost use Rattle.p3l_run.specs.Timed.{CompletesInTime, FeedsInTime, IsInTime, IsTimedEnd, MayFeed, MayStep, RunsInTime, StepsInTime, timed_job};
 ghost use Rattle.p3l_run.specs.Wants.{Wants};
 
@@ -36,9 +37,9 @@ impl<'t> Execution<'t> {
         timer: &mut Timer,
         input: &mut S,
     ) -> Result<(), NoMemory>
-        requires { MayFeed (S.rest input.old) (S.faults input.old) self.old timer.old }
-        ensures feeds { FeedsInTime (S.rest input.old) (S.rest input.new) (S.faults input.old)
-            (S.faults input.new) self.old self.new timer.old timer.new result }
+        requires { MayFeed (S.observed input.old) self.old timer.old }
+        ensures feeds { FeedsInTime (change (S.observed input.old) (S.observed input.new))
+            self.old self.new timer.old timer.new result }
         ensures wants { OnErr result Refused }
     {
         self.close = feed(
@@ -52,7 +53,8 @@ impl<'t> Execution<'t> {
         Ok(())
     }
 
-    /// Fires the process that is due next, if one is, and writes what it emits; says whether one was.
+    /// Fires the process that is due next, if one is, and writes what it emits; says whether one
+    /// was.
     fn step_in_time<U: Units, K: Sink>(
         &mut self,
         alloc: Global,
@@ -63,18 +65,18 @@ impl<'t> Execution<'t> {
     ) -> Result<bool, RunFault>
         requires tree { tree.now ≡ self.old.machine.tree }
         requires units { U.tree units.now ≡ tree.now }
-        requires job { MayStep (U.leaf units.now) (K.taken out.old) (K.faults out.old)
-            self.old timer.old }
-        ensures steps { StepsInTime (U.leaf units.now) (K.taken out.old) (K.taken out.new)
-            (K.faults out.old) (K.faults out.new) self.old self.new timer.old timer.new result }
+        requires job { MayStep (U.leaf units.now) (K.observed out.old) self.old timer.old }
+        ensures steps { StepsInTime (U.leaf units.now)
+            (change (K.observed out.old) (K.observed out.new))
+            self.old self.new timer.old timer.new result }
         ensures wants { IfErr result (Wants U.may_want) }
     {
         let Some(process) = timer.next() else {
             return Ok(false);
         };
-        let emitted = self.fire(alloc, tree, units, process)?;
+        let outcome = self.fire(alloc, tree, units, process)?;
         timer.fired(process, &self.machine);
-        self.report = write_emitted(alloc, emitted, self.report, out)?;
+        self.emitted = write_emitted(alloc, outcome, self.emitted, out)?;
         Ok(true)
     }
 
@@ -92,11 +94,11 @@ impl<'t> Execution<'t> {
         requires tree { tree.now ≡ self.old.machine.tree }
         requires units { U.tree units.now ≡ tree.now }
         requires job { IsInTime (U.leaf units.now)
-            (outside (S.rest input.old) (S.faults input.old) (K.taken out.old) (K.faults out.old))
+            (streams (S.observed input.old) (K.observed out.old))
             self.old timer.old }
         ensures runs { RunsInTime (U.leaf units.now)
-            (outside (S.rest input.old) (S.faults input.old) (K.taken out.old) (K.faults out.old))
-            (outside (S.rest input.new) (S.faults input.new) (K.taken out.new) (K.faults out.new))
+            (streams (S.observed input.old) (K.observed out.old))
+            (streams (S.observed input.new) (K.observed out.new))
             self.old self.new timer.old timer.new result }
         ensures wants { IfErr result (Wants U.may_want) }
     {
@@ -131,11 +133,11 @@ impl<'t> Execution<'t> {
         requires tree { tree.now ≡ self.machine.tree }
         requires units { U.tree units.now ≡ tree.now }
         requires job { IsInTime (U.leaf units.now)
-            (outside (S.rest input.old) (S.faults input.old) (K.taken out.old) (K.faults out.old))
+            (streams (S.observed input.old) (K.observed out.old))
             self timer }
         ensures ends { CompletesInTime (U.leaf units.now) tree.now
-            (outside (S.rest input.old) (S.faults input.old) (K.taken out.old) (K.faults out.old))
-            (outside (S.rest input.new) (S.faults input.new) (K.taken out.new) (K.faults out.new))
+            (streams (S.observed input.old) (K.observed out.old))
+            (streams (S.observed input.new) (K.observed out.new))
             self.entry timer result }
         ensures wants { IfErr result (Wants U.may_want) }
     {
@@ -148,8 +150,8 @@ impl<'t> Execution<'t> {
 
 /// Runs a network on the items of the input in virtual time, and writes each value as it comes out.
 ///
-/// Each firing costs its process a price, by the costs of the tree, and the process that is due first
-/// fires next. The run is that under the picks so made, as if they had been recorded.
+/// Each firing costs its process a price, by the costs of the tree, and the process that is due
+/// first fires next. The run is that under the picks so made, as if they had been recorded.
 pub fn run_in_time<U: Units, S: Source, K: Sink>(
     alloc: Global,
     plan: Plan<'_, U>,
@@ -166,9 +168,9 @@ pub fn run_in_time<U: Units, S: Source, K: Sink>(
     requires small { HasSmallPrices plan.tree.now costs.now plan.net }
     ensures does { IsTimedEnd (timed_job (network plan.entry.tree.now (U.leaf plan.entry.units.now)
         plan.entry.net plan.entry.firings) keeping
-        (outside (S.rest input.old) (S.faults input.old) (K.taken out.old) (K.faults out.old)))
+        (streams (S.observed input.old) (K.observed out.old)))
         (prices_of plan.entry.tree.now costs.now plan.entry.net)
-        (outside (S.rest input.new) (S.faults input.new) (K.taken out.new) (K.faults out.new))
+        (streams (S.observed input.new) (K.observed out.new))
         result }
     ensures wants { IfErr result (Wants U.may_want) }
 {

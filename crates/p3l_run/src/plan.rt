@@ -9,8 +9,8 @@ pub struct Plan<'a, U: Units> {
     pub tree: &'a Tree,
     pub units: &'a U,
     pub net: Net,
-    /// How often the net can fire for one item.
+    /// The most firings of the net for one item.
     pub firings: u64,
-    /// How many words an item has.
+    /// The count of words in an item.
     pub width: u32,
 }

@@ -1,6 +1,7 @@
-// Runs that go on from what was saved of others.
+// Runs that continue from snapshots.
 
 ghost use Rattle.std.specs.Prelude.{◌≡◌, ◌≤◌, ◌<◌, ◌^◌, length, IfErr};
+ghost use Rattle.p3l_io.specs.Change.{change};
 ghost use Rattle.p3l_sched.specs.Picker.{NamesProcesses, recorded};
 ghost use Rattle.p3l_skel.specs.Tree.{node_at};
 ghost use Rattle.p3l_run.specs.declared.keeping.Keeping.TheVariants.{Nothing};
@@ -24,7 +25,8 @@ use p3l_skel::Units;
 use p3l_stream::laws::a_stream_gives_its_items;
 use std::alloc::Global;
 
-/// A shot as the run that goes on from it begins, which counts the outcomes that it emits itself.
+/// A shot as the run that continues from it begins, which counts only the outcomes that it emits
+/// itself.
 fn uncounted(shot: Shot) -> Shot
     ensures { result ≡ uncounted shot }
 {
@@ -32,8 +34,8 @@ fn uncounted(shot: Shot) -> Shot
 }
 
 /// Runs a network from the state that was saved of another run, as `run` does from the first one:
-/// further items come from the input, and nothing that was in the network is lost or repeated. Items
-/// are counted from the first one of all, and picks and firings from the state on.
+/// further items come from the input, and nothing that was in the network is lost or repeated.
+/// Items are counted from the first one of all, and picks and firings from the state on.
 pub fn resume<U: Units, S: Source, K: Sink>(
     alloc: Global,
     plan: Plan<'_, U>,
@@ -54,9 +56,9 @@ pub fn resume<U: Units, S: Source, K: Sink>(
         plan.entry.net plan.entry.firings) shot r
         → IsRunEnd (resumed r (network plan.entry.tree.now (U.leaf plan.entry.units.now)
         plan.entry.net plan.entry.firings)) schedule Nothing
-        (S.rest input.old) (S.rest input.new) (S.faults input.old) (S.faults input.new)
-        (K.taken out.old) (K.taken out.new) result }
-    ensures output { WriteCause (K.faults out.old) (K.faults out.new) result }
+        (change (S.observed input.old) (S.observed input.new))
+        (change (K.observed out.old) (K.observed out.new)) result }
+    ensures output { WriteCause (change (K.observed out.old) (K.observed out.new)) result }
     ensures wants { IfErr result (Wants U.may_want) }
 {
     laws();

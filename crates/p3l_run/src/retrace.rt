@@ -1,6 +1,7 @@
 // The check of a trace.
 
 ghost use Rattle.std.specs.Prelude.{◌≡◌, ◌<◌, ◌≤◌, ◌*◌, ◌^◌, OnErr};
+ghost use Rattle.p3l_io.specs.Change.{change};
 ghost use Rattle.p3l_skel.specs.Tree.{node_at};
 ghost use Rattle.p3l_run.specs.Feed.{most_of_input};
 ghost use Rattle.p3l_run.specs.Network.{IsSound, network};
@@ -44,7 +45,7 @@ pub fn retrace<U: Units, S: Source>(
     requires fits { plan.firings * most_of_input < 2 ^ 63 }
     ensures does { IsRetraced (network plan.entry.tree.now (U.leaf plan.entry.units.now)
         plan.entry.net plan.entry.firings) traced.now
-        (S.rest input.old) (S.rest input.new) (S.faults input.old) (S.faults input.new) result }
+        (change (S.observed input.old) (S.observed input.new)) result }
     ensures wants { OnErr result (IsWanting U.may_want) }
 {
     laws();

@@ -1,6 +1,7 @@
 // The run of a network from the input to the output.
 
 ghost use Rattle.std.specs.Prelude.{◌≡◌, ◌<◌, ◌≤◌, ◌*◌, ◌^◌, length, IfErr};
+ghost use Rattle.p3l_io.specs.Change.{change};
 ghost use Rattle.p3l_sched.specs.Picker.{NamesProcesses, recorded};
 ghost use Rattle.p3l_skel.specs.Tree.{node_at};
 ghost use Rattle.p3l_run.specs.Feed.{most_of_input};
@@ -34,7 +35,8 @@ pub struct Ran {
     pub sum: i64,
 }
 
-/// Runs a network on the items of the input under a schedule, and writes each value as it comes out.
+/// Runs a network on the items of the input under a schedule, and writes each value as it comes
+/// out.
 ///
 /// An item is requested where the inbox is empty; a pick that can't fire is idle. The run ends
 /// where no process can fire, or the recorded picks are ended. Each pick is a line of the trace,
@@ -56,17 +58,17 @@ pub fn run<U: Units, S: Source, K: Sink>(
     requires few { recorded schedule < 2 ^ 63 }
     ensures ends { IsRunEnd (network plan.entry.tree.now (U.leaf plan.entry.units.now)
         plan.entry.net plan.entry.firings) schedule keeping
-        (S.rest input.old) (S.rest input.new) (S.faults input.old) (S.faults input.new)
-        (K.taken out.old) (K.taken out.new) result }
-    ensures output { WriteCause (K.faults out.old) (K.faults out.new) result }
+        (change (S.observed input.old) (S.observed input.new))
+        (change (K.observed out.old) (K.observed out.new)) result }
+    ensures output { WriteCause (change (K.observed out.old) (K.observed out.new)) result }
     ensures wants { IfErr result (Wants U.may_want) }
 {
     let named = plan.tree;
     run_named(alloc, plan, named, schedule, keeping, input, out)
 }
 
-/// Runs a network as `run` does, but a module of another tree names a trap: where the bodies that are
-/// run do what that tree's do, and hand on their traps.
+/// Runs a network as `run` does, but a module of another tree names a trap: where the bodies that
+/// are run do what that tree's do, and hand on their traps.
 pub fn run_named<U: Units, S: Source, K: Sink>(
     alloc: Global,
     plan: Plan<'_, U>,
@@ -85,9 +87,9 @@ pub fn run_named<U: Units, S: Source, K: Sink>(
     requires few { recorded schedule < 2 ^ 63 }
     ensures ends { IsRunEnd (network_named named.now plan.entry.tree.now
         (U.leaf plan.entry.units.now) plan.entry.net plan.entry.firings) schedule keeping
-        (S.rest input.old) (S.rest input.new) (S.faults input.old) (S.faults input.new)
-        (K.taken out.old) (K.taken out.new) result }
-    ensures output { WriteCause (K.faults out.old) (K.faults out.new) result }
+        (change (S.observed input.old) (S.observed input.new))
+        (change (K.observed out.old) (K.observed out.new)) result }
+    ensures output { WriteCause (change (K.observed out.old) (K.observed out.new)) result }
     ensures wants { IfErr result (Wants U.may_want) }
 {
     laws();

@@ -3,6 +3,7 @@
 ghost use Rattle.std.specs.Prelude.{◌≡◌, ◌≤◌, OnOk};
 ghost use Rattle.p3l_base.specs.Memory.{IfGiven};
 ghost use Rattle.std.specs.List.{All};
+ghost use Rattle.p3l_io.specs.Change.{change};
 ghost use Rattle.p3l_skel.specs.Lawful.{IsLawfulTree};
 ghost use Rattle.p3l_skel.specs.Tree.{node_at};
 ghost use Rattle.p3l_units.specs.Table.{HasCode};
@@ -19,7 +20,7 @@ use p3l_stream::laws::a_stream_gives_its_items;
 use p3l_stream::{Ending, Lines};
 use std::alloc::Global;
 
-/// How the profile of an input ended.
+/// The end of a profile of an input.
 #[derive(Clone, Copy, Debug, Drop, PartialEq, Eq)]
 pub enum Sampled {
     /// All items were noted, and the stream ended so.
@@ -47,7 +48,7 @@ pub fn sample<S: Source>(
     ensures sampled { IfGiven result (IsSampled tree.now
         (record { tree = tree.now; codes = codes.now })
         profile.old.greatest profile.new.greatest
-        (S.rest input.old) (S.rest input.new) (S.faults input.old) (S.faults input.new)) }
+        (change (S.observed input.old) (S.observed input.new))) }
     ensures of { OnOk result (IsProfileOf tree.now profile.new) }
 {
     a_stream_gives_its_items();
@@ -72,7 +73,7 @@ pub fn sample<S: Source>(
     unreachable!()
 }
 
-/// How many words an item of a tree has.
+/// The count of words in an item of a tree.
 fn width_of(tree: &Tree) -> u32
     requires { IsLawfulTree tree.now }
     ensures width { result ≡ (node_at tree.now 0).ins }

@@ -2,6 +2,7 @@
 
 ghost use Rattle.std.specs.Prelude.{◌≡◌, IfOk, OnOk, OnErr, fold, IfErr, Bool};
 ghost use Rattle.std.specs.Option.{option_to_list};
+ghost use Rattle.p3l_io.specs.Change.{change};
 ghost use Rattle.p3l_run.specs.Sum.{sum_after};
 ghost use Rattle.p3l_run.specs.Trap.{trap_after};
 ghost use Rattle.p3l_run.specs.Wants.{Wants};
@@ -17,9 +18,10 @@ use std::alloc::Global;
 
 /// Writes a text by one put, or by none where there is no text.
 pub fn write<K: Sink>(out: &mut K, text: &[u8]) -> Result<(), RunFault>
-    ensures put { OnOk result (HasPut (K.taken out.old) (K.taken out.new) text.now) }
-    ensures begun { OnErr result (HasBegun (K.taken out.old) (K.taken out.new) text.now) }
-    ensures cause { WriteCause (K.faults out.old) (K.faults out.new) result }
+    ensures put { OnOk result (HasPut (change (K.observed out.old) (K.observed out.new)) text.now) }
+    ensures begun { OnErr result (HasBegun (change (K.observed out.old) (K.observed out.new))
+        text.now) }
+    ensures cause { WriteCause (change (K.observed out.old) (K.observed out.new)) result }
     ensures wants { (units : Bool) → IfErr result (Wants units) }
 {
     if text.is_empty() {
@@ -31,44 +33,45 @@ pub fn write<K: Sink>(out: &mut K, text: &[u8]) -> Result<(), RunFault>
     }
 }
 
-/// The report of the outcomes so far: the last trap among them, and the sum of the words of
-/// the values.
+/// The outcomes that were emitted so far, as a run ends by them: the last trap among them, and the
+/// sum of the words of the values.
 #[derive(Clone, Copy, Debug, Drop)]
-pub struct Report {
+pub struct Emitted {
     pub trap: Option<Trap>,
     pub sum: i64,
 }
 
-/// Writes the line of what was emitted, if that is a value; gives the report with it included.
+/// Writes the line of an outcome, if there is one and it is a value; gives all that was emitted,
+/// with it included.
 pub(crate) fn write_emitted<K: Sink>(
     alloc: Global,
-    emitted: Option<Outcome>,
-    report: Report,
+    outcome: Option<Outcome>,
+    emitted: Emitted,
     out: &mut K,
-) -> Result<Report, RunFault>
+) -> Result<Emitted, RunFault>
     ensures trap { IfOk result (λ after. after.trap
-        ≡ fold trap_after report.trap (option_to_list emitted)) }
+        ≡ fold trap_after emitted.trap (option_to_list outcome)) }
     ensures sum { IfOk result (λ after. after.sum
-        ≡ fold sum_after report.sum (option_to_list emitted)) }
-    ensures put { OnOk result (HasPut (K.taken out.old) (K.taken out.new)
-        (text_of (option_to_list emitted))) }
-    ensures begun { OnErr result (HasBegun (K.taken out.old) (K.taken out.new)
-        (text_of (option_to_list emitted))) }
-    ensures cause { WriteCause (K.faults out.old) (K.faults out.new) result }
+        ≡ fold sum_after emitted.sum (option_to_list outcome)) }
+    ensures put { OnOk result (HasPut (change (K.observed out.old) (K.observed out.new))
+        (text_of (option_to_list outcome))) }
+    ensures begun { OnErr result (HasBegun (change (K.observed out.old) (K.observed out.new))
+        (text_of (option_to_list outcome))) }
+    ensures cause { WriteCause (change (K.observed out.old) (K.observed out.new)) result }
     ensures wants { (units : Bool) → IfErr result (Wants units) }
 {
-    match emitted {
-        None => Ok(report),
-        Some(Outcome::Trapped(other)) => Ok(Report {
+    match outcome {
+        None => Ok(emitted),
+        Some(Outcome::Trapped(other)) => Ok(Emitted {
             trap: Some(other),
-            sum: report.sum,
+            sum: emitted.sum,
         }),
         Some(Outcome::Value(words)) => {
             let text = item_text(alloc, &words)?;
             match write(out, text.as_slice()) {
-                Ok(()) => Ok(Report {
-                    trap: report.trap,
-                    sum: add_words(report.sum, &words),
+                Ok(()) => Ok(Emitted {
+                    trap: emitted.trap,
+                    sum: add_words(emitted.sum, &words),
                 }),
                 Err(fault) => Err(fault),
             }

@@ -25,7 +25,7 @@ fn machine_of<'t>(alloc: Global, tree: &'t Tree) -> Result<Machine<'t>, NoMemory
     Machine::start(alloc, tree, net)
 }
 
-/// How a stream of four bytes at most ended, if it did, when a machine was fed from it.
+/// The ending of a stream of four bytes at most, if it ended, when a machine was fed from it.
 fn fed_within(
     alloc: Global,
     machine: &mut Machine<'_>,

@@ -5,7 +5,7 @@ ghost use Rattle.p3l_sketch.specs.OneNode.{one_node};
 ghost use Rattle.p3l_sched.specs.Picker.{NamesProcesses, recorded};
 
 use p3l_io::{MemSink, MemSource};
-use p3l_net::laws::{the_net_of_one_unit_is_carried, the_net_of_one_unit_is_typed};
+use p3l_net::laws::{the_net_of_one_unit_has_invariants, the_net_of_one_unit_is_typed};
 use p3l_net::unit_net;
 use p3l_run::run::run;
 use p3l_run::{Keeping, Plan, Ran, RunFault};
@@ -53,7 +53,7 @@ pub fn run_on<U: Units>(
     requires few { recorded schedule < 2 ^ 63 }
 {
     the_net_of_one_unit_is_typed();
-    the_net_of_one_unit_is_carried();
+    the_net_of_one_unit_has_invariants();
     let tree = tree_of_one(alloc)?;
     let net = unit_net(alloc, 4)?;
     let plan = Plan {

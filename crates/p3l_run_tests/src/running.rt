@@ -21,7 +21,7 @@ fn list<T: Copy + Drop>(alloc: Global, items: &[T]) -> Result<List<T>, Fail> {
     Ok(List::from_vec(Vec::from_slice(alloc, items)?))
 }
 
-/// How a run ended, as a text.
+/// The end of a run, as a text.
 #[derive(Clone, Copy)]
 struct Shown<'a>(&'a Result<Ran, RunFault>);
 
@@ -58,15 +58,15 @@ fn ending_shown(ending: Ending) -> &'static str {
     }
 }
 
-/// What a run reads from and writes to.
+/// The input and the output of a run.
 #[derive(Drop)]
 struct Ends {
     source: MemSource,
     sink: MemSink,
 }
 
-/// A source of these bytes that gives at most `piece` of them at once, and a sink with this much room;
-/// with their calls that fail.
+/// A source of these bytes that gives at most `piece` of them at once, and a sink with this much
+/// room; with their calls that fail.
 fn ends_of(
     alloc: Global,
     input: &[u8],
@@ -81,7 +81,7 @@ fn ends_of(
     Ok(Ends { source, sink })
 }
 
-/// How a run ended whose lines are not kept, as a text.
+/// The end of a run whose lines are not kept, as a text.
 fn ended<U: Units>(
     rt: &impl Abort,
     alloc: Global,

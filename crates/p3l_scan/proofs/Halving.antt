@@ -95,11 +95,11 @@ back-of (suc n) m (x ∷ xs) =
     let e : suc n + m ≡ suc (n + m) = omega arith in ap (λ k. drop (suc n) (take k (x ∷ xs))) e ∙ back-of n m xs
 
 module _ (elem : ℕ) (some : 0 < elem) (operator : List ℤ → Outcome) (keeps : Combines elem operator) where
-  -- what the scan of a block comes to
+  -- the outcome of the scan of a block
   abbrev pub scanned : List (List ℤ) → Outcome
   scanned block = in_words (scan operator block)
 
-  -- what all n blocks come to
+  -- the outcome of the scans of all n blocks
   abbrev pub scans : (n b : ℕ) → List (List ℤ) → Outcome
   scans n b xs = in_row (map scanned (chunks n b xs))
 
@@ -206,7 +206,7 @@ module _ (elem : ℕ) (some : 0 < elem) (operator : List ℤ → Outcome) (keeps
       (scan-fits elem operator keeps (take b xs) (sized-take elem b xs h))))
       (scans-length n b (drop b xs) (omega (arith, e, product, length-drop b xs)) (sized-drop elem b xs h)))
 
-  -- where all larger blocks have scans, so have all smaller ones
+  -- all smaller blocks have scans if all larger ones have
   smaller : (n b : ℕ) (xs : List (List ℤ)) (words : List ℤ) → 1 ≤ b → length xs ≡ n * (b + b) →
       scans n (b + b) xs ≡ Value words → (smaller_words : List ℤ) × (scans (n + n) b xs ≡ Value smaller_words)
   unfolding chunks in_row

@@ -9,7 +9,7 @@ use Rattle.p3l_scan.specs.Scan.{Scanned, before, both, combined_each, last_of, m
 use Rattle.p3l_scan.specs.Value.{EndsWithTheFold}
 use Rattle.p3l_scan.proofs.Scans.{scan-halves, scan-one}
 
--- what a first outcome and others come to
+-- a first outcome and others make these folds
 record IsBefore (one : Outcome) (rest : Scanned) (folds : List (List ℤ)) : Type 0 where
   word : List ℤ
   more : List (List ℤ)
@@ -64,7 +64,7 @@ merged-last operator front (y ∷ ys) folds l e = by-each (combined_each operato
         ap (λ zs. Value (last_of zs)) (sym whole) ∙ ap Value (append-last front more r.0) ∙ r.1,
       )
 
--- what both halves come to
+-- both halves make these folds
 record AreBoth (operator : List ℤ → Outcome) (one other : Scanned) (folds : List (List ℤ)) : Type 0 where
   front : List (List ℤ)
   back : List (List ℤ)

@@ -94,7 +94,7 @@ module _ (d w : ℕ) (few : d ≤ 9) (some : 1 ≤ w) (small : 2 ^ d * w ≤ 655
   step-there : (s : ℕ) → s ≤ d → step_node s < length (plan_tree d w).nodes
   step-there s l = omega (arith, nodes-length d w, l)
 
-  -- how many blocks, and how many words each has
+  -- the bounds of the number of blocks, and of the words of each
   blocks-small : (s : ℕ) → s ≤ d → 2 ^ (d - s) ≤ 512
   blocks-small s l = power-small (d - s) d (omega arith) few
 

@@ -1,4 +1,4 @@
--- What the steps of a plan do with blocks of elements.
+-- Effects of the steps of a plan on blocks of elements.
 use Rattle.std.proofs.Common.{◌≡◌, ℕ, ℤ, ◌*◌, ◌/◌, ◌<◌, ◌≤◌, true, false, Ok, Err, List, ◌++◌, take, drop, length, refl, arith, ap, ap₂, sym, ◌∙◌, subst, length-append}
 use Rattle.std.specs.Prelude.{nat_eq, nat_le}
 use Rattle.std.proofs.lemmas.Bool.Decides.{nat_tests}

@@ -76,7 +76,7 @@ pub next-next : (front more : List ℤ) (rest : Outcome) →
 next-next front more (Trapped trap) = refl
 next-next front more (Value words) = ap Value (sym (append_assoc front more words))
 
--- what is left to be done makes of the folds so far the whole
+-- the work left turns the folds so far into the whole
 abbrev pub LeadsTo : (List ℤ → Outcome) → (elem : ℕ) → (folds last rest : List ℤ) → Outcome → Type 0
 LeadsTo operator elem folds last rest whole =
     with_next (Value folds) (in_words (combined_each operator last (elements elem rest))) ≡ whole

@@ -1,4 +1,4 @@
--- What the units of a plan run.
+-- Results of the units of a plan.
 use Rattle.std.proofs.Common.{◌≡◌, ℕ, ℤ, zero, suc, ◌+◌, ◌-◌, ◌*◌, ◌/◌, ◌^◌, ◌<◌, ◌≤◌, Result, Ok, Err, inl, List, [], ◌++◌, take, drop, length, map, refl, arith, ap, sym, ◌∙◌, length-take, length-drop}
 use Rattle.std.proofs.Math.Nat.{add-mul, mul_assoc, suc-mul}
 use Rattle.std.proofs.lemmas.List.{take-append-drop}

@@ -1,4 +1,4 @@
--- Which outcome a plan comes to: the guard of its steps never acts, its root goes by its stages, and its traps are the operator's.
+-- Outcomes of plans: the guard of the steps never acts, the root goes by its stages, and the traps are the operator's.
 use Rattle.std.proofs.Common.{◌≡◌, ℕ, ℤ, zero, suc, ◌+◌, ◌-◌, ◌*◌, ◌/◌, ◌^◌, ◌<◌, ◌≤◌, false, Ok, Err, List, [], ◌∷◌, ◌++◌, take, drop, length, map, refl, arith, ap, ap₂, sym, ◌∙◌, subst, length-append, length-take, length-drop}
 use Rattle.std.specs.Prelude.{nat_le}
 use Rattle.std.proofs.Math.Nat.{mul_assoc, suc-mul}

@@ -1,4 +1,4 @@
--- What the linker makes of a plan.
+-- The linked net of a plan.
 use Rattle.std.specs.Prelude.{◌≡◌, ℕ, ◌-◌, length}
 use Rattle.p3l_skel.specs.declared.tree.Tree.{Tree}
 use Rattle.p3l_skel.specs.Lawful.{IsLawfulTree}

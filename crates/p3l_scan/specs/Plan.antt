@@ -86,7 +86,7 @@ unfoldable pub infos_of : (more : ℕ) → List ModuleInfo
 infos_of zero = stage_info ∷ (step_info ∷ [])
 infos_of (suc more) = stage_info ∷ (step_info ∷ infos_of more)
 
--- how many blocks these stages have, each half as many as the one before it
+-- the numbers of blocks of these stages, each half as many as the one before it
 unfoldable pub counts_of : (more : ℕ) → List ℕ
 counts_of zero = 1 ∷ []
 counts_of (suc more) = 2 ^ suc more ∷ counts_of more

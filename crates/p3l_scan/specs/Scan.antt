@@ -5,7 +5,7 @@ use Rattle.p3l_base.specs.declared.outcome.Outcome.{Outcome}
 use Rattle.p3l_base.specs.declared.outcome.Outcome.TheVariants.{Value, Trapped}
 use Rattle.p3l_base.specs.declared.outcome.Trap.{Trap}
 
--- what a scan comes to: the folds in order, or a trap
+-- the result of a scan: the folds in order, or a trap
 abbrev pub Scanned : Type 0
 Scanned = Result (List (List ℤ)) Trap
 

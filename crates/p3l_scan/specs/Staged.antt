@@ -9,7 +9,7 @@ use Rattle.p3l_scan.specs.Row.{in_row}
 use Rattle.p3l_scan.specs.Scan.{in_words}
 use Rattle.p3l_scan.specs.Step.{step_leaf, stepped}
 
--- what the step of stage s makes of a block: that of stage 0 scans it, and a later one merges its two halves
+-- the outcome of the step of stage s for a block: that of stage 0 scans it, and a later one merges its two halves
 abbrev pub block_outcome : (elem : ℕ) → (List ℤ → Outcome) → (s : ℕ) → List ℤ → Outcome
 block_outcome elem operator s block = in_words (stepped operator (step_node s) (elements elem block))
 
@@ -23,7 +23,7 @@ staged elem operator s zero size words = stage_outcome elem operator s 1 size wo
 staged elem operator s (suc more) size words =
     on_value (staged elem operator (suc s) more (2 * size)) (stage_outcome elem operator s (2 ^ suc more) size words)
 
--- what the root of a plan makes of an item is what its stages in order make of it: of several traps the first by stage, then by block
+-- the root of a plan does to an item the work of its stages in order: of several traps it gives the first by stage, then by block
 abbrev pub GoesByStages : (levels words elem : ℕ) → (ℕ → List ℤ → Outcome) → (List ℤ → Outcome) → Type 0
 GoesByStages levels words elem leaf operator =
     (item_words : List ℤ) → length item_words ≡ 2 ^ levels * words →

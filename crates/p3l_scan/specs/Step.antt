@@ -1,4 +1,4 @@
--- What the steps of a plan do with the words of a block.
+-- Effects of the steps of a plan on the words of a block.
 use Rattle.std.specs.Prelude.{◌≡◌, ℕ, ℤ, ◌*◌, ◌/◌, ◌^◌, ◌≤◌, nat_eq, nat_le, if◌then◌else◌, List, length, take, drop}
 use Rattle.p3l_base.specs.Limits.{most_words}
 use Rattle.p3l_base.specs.declared.outcome.Outcome.{Outcome}
@@ -14,7 +14,7 @@ use Rattle.p3l_scan.specs.Scan.{Scanned, in_words, merged, scan}
 abbrev pub merged_halves : (List ℤ → Outcome) → List (List ℤ) → Scanned
 merged_halves operator block = merged operator (take (length block / 2) block) (drop (length block / 2) block)
 
--- what the step of this module makes of a block's elements: that of the first stage scans them
+-- the result of this module's step for a block's elements: that of the first stage scans them
 abbrev pub stepped : (List ℤ → Outcome) → ℕ → List (List ℤ) → Scanned
 stepped operator home block = if nat_le home 2 then scan operator block else merged_halves operator block
 
@@ -23,7 +23,7 @@ abbrev pub fitted : (n home : ℕ) → Outcome → Outcome
 fitted n home (Value words) = if nat_eq (length words) n then Value words else Trapped (record { kind = Index; «module» = home })
 fitted n home (Trapped trap) = Trapped trap
 
--- what it makes of a block's words, with elements of `elem` words
+-- its outcome for a block's words, with elements of `elem` words
 unfoldable pub step_leaf : (elem : ℕ) → (List ℤ → Outcome) → ℕ → List ℤ → Outcome
 step_leaf elem operator home words = fitted (length words) home (in_words (stepped operator home (elements elem words)))
 
@@ -51,7 +51,7 @@ HasElements elem words = (n : ℕ) × (1 ≤ n) × (length words ≡ n * elem)
 abbrev pub HasHalves : ℕ → List ℤ → Type 0
 HasHalves elem words = (n : ℕ) × (1 ≤ n) × (length words ≡ 2 * (n * elem))
 
--- what they keep: the operator combines elements of the inner tree; a block has whole elements, and all blocks together are an
+-- the laws of a scan: the operator combines elements of the inner tree; a block has whole elements, and all blocks together are an
 -- item
 pub record IsScanning (tree : Tree) (levels words elem op : ℕ) : Type 0 where
   pub operator : IsOperator tree op elem

@@ -6,7 +6,7 @@ use Rattle.p3l_skel.specs.Tree.{node_at, part_at}
 use Rattle.p3l_map.specs.MapShape.{map_shape, IsMapNode}
 use Rattle.p3l_template.specs.Pipe.{pipe_shape}
 use Rattle.p3l_template.specs.Run.{run_shape}
-use Rattle.p3l_template.specs.Shape.{Shape}
+use Rattle.p3l_template.specs.Shape.{Blueprint}
 use Rattle.p3l_template.specs.Typing.{IsPipeNode, IsRunNode}
 use Rattle.p3l_scan.specs.Nested.{nested}
 use Rattle.p3l_scan.specs.Plan.{stage_node, step_node}
@@ -16,11 +16,11 @@ abbrev pub blocks : ℕ → ℕ → ℕ
 blocks d s = 2 ^ (d - s)
 
 -- a map over n blocks, whose part is one process
-abbrev pub stage_shape : ℕ → ℕ → ℕ → Shape
+abbrev pub stage_shape : ℕ → ℕ → ℕ → Blueprint
 stage_shape stage step n = nested (map_shape stage n) (λ v. run_shape step)
 
 -- THE TEMPLATE OF A SCAN in which d stages follow the first
-abbrev pub scan_shape : ℕ → Shape
+abbrev pub scan_shape : ℕ → Blueprint
 scan_shape d = nested (pipe_shape d) (λ s. stage_shape (stage_node s) (step_node s) (blocks d s))
 
 -- a node of a tree is a map over n blocks, and its part a node of one process

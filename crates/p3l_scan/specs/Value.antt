@@ -1,4 +1,4 @@
--- What a plan comes to.
+-- Outcomes of plans.
 use Rattle.std.specs.Prelude.{◌≡◌, ℕ, ℤ, ◌*◌, ◌^◌, List, Ok, length, map, ⊤}
 use Rattle.p3l_base.specs.declared.outcome.Outcome.{Outcome}
 use Rattle.p3l_base.specs.declared.outcome.Outcome.TheVariants.{Value, Trapped}
@@ -14,7 +14,7 @@ Agree (Trapped trap) (Trapped other) = ⊤
 Agree (Value v) (Trapped trap) = ⊥
 Agree (Trapped trap) (Value w) = ⊥
 
--- what the root of a plan makes of an item is the scan of its elements, or a trap where that is one: so it doesn't depend on the
+-- the root of a plan gives the scan of an item's elements, or a trap where that is one: so it doesn't depend on the
 -- number of segments
 abbrev pub IsScan : (levels words elem : ℕ) → (ℕ → List ℤ → Outcome) → (List ℤ → Outcome) → Type 0
 IsScan levels words elem leaf operator =

@@ -22,7 +22,7 @@ use std::marker::Model;
 /// The bodies of a plan's nodes, over those of the tree that is scanned.
 #[derive(Drop)]
 pub struct ScanUnits<U: Units> {
-    // How many stages follow the first, and how many words a block of the first has.
+    // The number of stages after the first, and the number of words in a block of the first.
     levels: u32,
     words: u32,
     elem: u32,

@@ -1,4 +1,4 @@
--- Where words begin and end.
+-- Places at which words begin and end.
 use Rattle.std.proofs.Common.{◌≡◌, ℕ, zero, suc, ◌+◌, ◌<◌, ◌≤◌, Bool, true, false, not, cond, ltb, List, [], ◌∷◌, ◌++◌, length, take, drop, Option, Some, None, position, unwrap_or, refl, ap, ap₂, sym, subst, ◌∙◌, arith, take-append-drop}
 use Rattle.std.specs.List.{position_or_len}
 use Rattle.std.proofs.lemmas.Bool.{ltb-true}
@@ -18,7 +18,7 @@ missing : (at size : ℕ) (b : Bool) → ltb at size ≡ b → at ≤ size → �
 missing at size true below within is = absurd cc
 missing at size false below within is = grind arith
 
--- where none was found, the first place is the length
+-- if none is found, the first place is the length
 pub position-none : (p : ℕ → Bool) (xs : List ℕ) → position p xs ≡ None → position_or_len p xs ≡ length xs
 position-none p xs is = missing (position_or_len p xs) (length xs) _ refl (prefix_len-le-length _ xs) is
 

@@ -28,7 +28,7 @@ some_length (byte ∷ bytes) some = omega arith
 test_of : (n : ℕ) → n < 2 ^ 64 → nat_lt n (2 ^ 64) ≡ true
 test_of n below = search rules
 
--- what is parsed is the number
+-- a parsed word gives its number
 pub parsed : {E : Type 0} (word : List ℕ) (r : Result ℕ E) (o : Option ℕ) → list_all is_ascii_digit word ≡ true → word ≢ [] → ParsesUnsigned 64 10 word r → o ≡ result_ok r → o ≡ number_of word
 parsed {E} word (Ok x) o digits some p is =
     let q : ((0 < length word) × (digits_value 10 word < 2 ^ 64)) × (x ≡ digits_value 10 word) = parse_digits own {E = E} 64 word (Ok x) p digits in

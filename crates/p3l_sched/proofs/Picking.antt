@@ -45,7 +45,7 @@ module _ (tree : Tree) (leaf : Leaf) (net : Net) where
   picks_from-stuck (suc most) w c is =
       ap (λ r. pick_before r (pick_of (can_fire tree net c.state) (length net.procs) w) (λ q. picks_from tree leaf net most (after_pick (length net.procs) w q) (picked tree leaf net c q))) is
 
--- what passes a test and is in a list
+-- a found number passes the test
 find_passes : (test : ℕ → Bool) (xs : List ℕ) (p : ℕ) → find test xs ≡ Some p → test p ≡ true
 find_passes test [] p h = cc
 find_passes test (x ∷ xs) p h =
@@ -57,7 +57,7 @@ find_passes test (x ∷ xs) p h =
       | inr e ↦ find_passes test xs p (sym (cond-false (test x) _ _ e) ∙ h)
     ]
 
--- what is in a filtered list passes the test
+-- all numbers of a list pass the test
 abbrev Pass : (ℕ → Bool) → List ℕ → Type 0
 Pass test [] = Unit {0}
 Pass test (x ∷ xs) = (test x ≡ true) × Pass test xs
@@ -85,7 +85,7 @@ picked_ready can size (way.Turns cursor) p h = find_passes can (in_turn size cur
 picked_ready can size (way.Draws generator) p h = get_passes can (ready_of can size) _ p (filter_passes can (range_with_len 0 size)) h
 picked_ready can size (way.Reads picks) p h = first_left picks p h
 
--- where no number of a range passes a test
+-- no number of a range passes a test if the filtered range is empty
 none_in_range : (test : ℕ → Bool) (from count : ℕ) → filter test (range_with_len from count) ≡ [] → (p : ℕ) → from ≤ p → p < from + count → test p ≡ false
 none_in_range test from zero none p low high = absurd (omega arith)
 none_in_range test from (suc count) none p low high =
@@ -106,7 +106,7 @@ past_end tree net s p h =
       | inr cannot ↦ cannot
     ]
 
--- where none of the processes can fire, nothing can
+-- nothing can fire if none of the processes can
 pub none_can : (tree : Tree) (net : Net) (s : State) → ready_of (can_fire tree net s) (length net.procs) ≡ [] → IsStuck tree net s
 none_can tree net s none = λ p. elim (cases_lt p (length net.procs)) [
   | inl inside ↦ none_in_range (can_fire tree net s) 0 (length net.procs) none p (omega arith) (omega arith)

@@ -5,7 +5,7 @@ use Rattle.std.proofs.lemmas.Bool.{cond-false, cond-true}
 use Rattle.std.proofs.lemmas.Nat.{mod_below}
 use Rattle.p3l_skel.specs.declared.tree.Tree.{Tree}
 use Rattle.p3l_firing.specs.declared.net.Net.{Net}
-use Rattle.p3l_firing.specs.Carried.{Carry, IsCarried}
+use Rattle.p3l_firing.specs.NetInvariants.{Invariants, HasInvariants}
 use Rattle.p3l_firing.specs.Fire.{IsStuck, can_fire}
 use Rattle.p3l_firing.specs.Nodes.{Leaf}
 use Rattle.p3l_firing.specs.Run.{Course, after_picks, course_from, picked}
@@ -18,7 +18,7 @@ use Rattle.p3l_sched.specs.Picker.{IsMade, after_pick, pick_of, ready_of}
 use Rattle.p3l_sched.proofs.Picking.{none_can, picked_ready, picks_from-ended, picks_from-next, picks_from-stuck}
 use Rattle.p3l_firing.proofs.OrderlyLaw.{IsKeptFrom, few_firings, kept_first, kept_fired}
 
--- where nothing passes a test, nothing of a list does
+-- a filtered list is empty if nothing passes the test
 filter_none : (test : ℕ → Bool) (xs : List ℕ) → ((p : ℕ) → test p ≡ false) → filter test xs ≡ []
 filter_none test [] none = refl
 filter_none test (x ∷ xs) none = cond-false (test x) _ _ (none x) ∙ filter_none test xs none
@@ -146,19 +146,19 @@ module _ (tree : Tree) (leaf : Leaf) (net : Net) where
   unfolding picked
   picked_fires c p can = cond-true _ _ _ can
 
-  module _ (firings : ℕ) (carry : Carry) (laws : IsCarried tree leaf net firings carry) (s : State) where
+  module _ (firings : ℕ) (invariants : Invariants) (laws : HasInvariants tree leaf net firings invariants) (s : State) where
     abbrev Kept : Course → Type 0
-    Kept c = IsKeptFrom tree leaf firings carry s c
+    Kept c = IsKeptFrom tree leaf firings invariants s c
 
     abbrev bound : ℕ
-    bound = carry.owed s + firings * length s.unsent
+    bound = invariants.owed s + firings * length s.unsent
 
     fired_more : (c : Course) (p : ℕ) → Kept c → can_fire tree net c.state p ≡ true → c.fired + 1 ≤ bound
     fired_more c p k can =
-        few_firings tree leaf net firings carry laws s (fired_at tree leaf net c p) (kept_fired tree leaf net firings carry laws s c p k can)
+        few_firings tree leaf net firings invariants laws s (fired_at tree leaf net c p) (kept_fired tree leaf net firings invariants laws s c p k can)
 
     kept_next : (c : Course) (p : ℕ) → Kept c → can_fire tree net c.state p ≡ true → Kept (picked tree leaf net c p)
-    kept_next c p k can = subst Kept (sym (picked_fires c p can)) (kept_fired tree leaf net firings carry laws s c p k can)
+    kept_next c p k can = subst Kept (sym (picked_fires c p can)) (kept_fired tree leaf net firings invariants laws s c p k can)
 
     fired_one : (c : Course) (p : ℕ) → can_fire tree net c.state p ≡ true → (picked tree leaf net c p).fired ≡ c.fired + 1
     fired_one c p can = ap (λ (x : Course). x.fired) (picked_fires c p can)
@@ -203,11 +203,11 @@ module _ (tree : Tree) (leaf : Leaf) (net : Net) where
               ∙ sym (picks_from-next tree leaf net most w c p next.ready next.is)
         ]
 
-    module _ (orderly : carry.orderly s ≡ true) (w : Way) (made : IsMade size w) (most : ℕ) (enough : bound ≤ most) where
+    module _ (orderly : invariants.orderly s ≡ true) (w : Way) (made : IsMade size w) (most : ℕ) (enough : bound ≤ most) where
       pub made_stuck : IsStuck tree net (end most w (course_from s)).state
       made_stuck =
           none_can tree net (end most w (course_from s)).state
-          (made_ends most w (course_from s) made (kept_first tree leaf net firings carry laws s orderly) (omega arith))
+          (made_ends most w (course_from s) made (kept_first tree leaf net firings invariants laws s orderly) (omega arith))
 
       pub made_enough : (more : ℕ) → picks (most + more) w (course_from s) ≡ picks most w (course_from s)
-      made_enough more = made_no_more most more w (course_from s) made (kept_first tree leaf net firings carry laws s orderly) (omega arith)
+      made_enough more = made_no_more most more w (course_from s) made (kept_first tree leaf net firings invariants laws s orderly) (omega arith)

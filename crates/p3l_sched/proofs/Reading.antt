@@ -17,12 +17,12 @@ pub has_byte : (word : List ℕ) → IsWord word → word ≢ []
 has_byte [] is e = is
 has_byte (byte ∷ bytes) is e = cc
 
--- what is left is shorter by the word at least
+-- the text after a word is shorter, by the word at least
 pub shorter : (rest gap word after : List ℕ) → IsAtWord rest gap word after → length gap + length after < length rest
 shorter rest gap [] after at = absurd at.is_word
 shorter rest gap (byte ∷ bytes) after at = omega (arith, ap length at.text_is, length-append gap ((byte ∷ bytes) ++ after), length-append (byte ∷ bytes) after)
 
--- no word is refused for want of memory
+-- no word is refused because memory ran out
 never_wants : (count line : ℕ) (number : Option ℕ) → pick_from count line number ≡ Err refusal.NoMemory → ⊥
 never_wants count line None is = cc
 never_wants count line (Some pick) is = tested (nat_lt pick count) is

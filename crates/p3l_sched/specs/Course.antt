@@ -26,7 +26,7 @@ picks_from tree leaf net (suc most) way c =
     pick_before (ready_of (can_fire tree net c.state) (length net.procs)) (pick_of (can_fire tree net c.state) (length net.procs) way)
     (λ p. picks_from tree leaf net most (after_pick (length net.procs) way p) (picked tree leaf net c p))
 
--- how many picks a schedule makes at most, where a run has at most `bound`
+-- the most picks of a schedule, if a run has at most `bound`
 abbrev pub most_picks : Schedule → ℕ → ℕ
 most_picks schedule.RoundRobin bound = bound
 most_picks (schedule.Seeded seed) bound = bound

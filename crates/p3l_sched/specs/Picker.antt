@@ -1,4 +1,4 @@
--- Which process is picked next.
+-- The choice of the process that is picked next.
 use Rattle.std.specs.Prelude.{◌≡◌, ℕ, ◌+◌, ◌%◌, ◌<◌, Bool, true, List, ◌∷◌, drop, filter, find, length, Option, None, Some}
 use Rattle.std.specs.List.{AllByRecursion, range_with_len, slice_get}
 use Rattle.rand_core.specs.Pcg32Seed.{pcg32_seed}
@@ -13,7 +13,7 @@ use Rattle.p3l_sched.specs.declared.schedule.Schedule.TheVariants as schedule
 abbrev pub ready_of : (ℕ → Bool) → ℕ → List ℕ
 ready_of can size = filter can (range_with_len 0 size)
 
--- what the first pick of a schedule is made by
+-- the way to a schedule's first pick
 abbrev pub begun : Schedule → Way
 begun schedule.RoundRobin = way.Turns 0
 begun (schedule.Seeded seed) = way.Draws (pcg32_of_seed (pcg32_seed 16 seed))
@@ -27,7 +27,7 @@ pick_of can size (way.Turns cursor) = find can (in_turn size cursor)
 pick_of can size (way.Draws generator) = slice_get (ready_of can size) ((pcg32 generator).0 % length (ready_of can size))
 pick_of can size (way.Reads picks) = slice_get picks 0
 
--- what the pick after a pick is made by: the cursor moves after what was picked, cyclically; a word was drawn; a pick was read
+-- the way to the pick after a pick: the cursor moves past the process, cyclically; a word was drawn; a pick was read
 abbrev pub after_pick : ℕ → Way → ℕ → Way
 after_pick size (way.Turns cursor) p = way.Turns ((p + 1) % size)
 after_pick size (way.Draws generator) p = way.Draws (pcg32 generator).1
@@ -57,7 +57,7 @@ abbrev pub HasProcesses : ℕ → Way → Type 0
 HasProcesses size (way.Reads picks) = AllByRecursion (λ p. p < size) picks
 HasProcesses size w = Unit {0}
 
--- how many picks are recorded
+-- the number of recorded picks
 abbrev pub recorded : Schedule → ℕ
 recorded (schedule.Recorded picks) = length picks
 recorded s = 0

@@ -4,7 +4,7 @@ ghost use Rattle.std.specs.Prelude.{◌≡◌, ◌≢◌, ◌+◌, ◌*◌, ◌<
 ghost use Rattle.p3l_base.specs.declared.outcome.Outcome.{Outcome};
 ghost use Rattle.p3l_skel.specs.declared.tree.Tree.{Tree};
 ghost use Rattle.p3l_firing.specs.declared.net.Net.{Net};
-ghost use Rattle.p3l_firing.specs.Carried.{Carry, IsCarried};
+ghost use Rattle.p3l_firing.specs.NetInvariants.{Invariants, HasInvariants};
 ghost use Rattle.p3l_firing.specs.Fire.{IsStuck, can_fire};
 ghost use Rattle.p3l_firing.specs.Nodes.{Leaf};
 ghost use Rattle.p3l_firing.specs.Run.{Course, course_from, picked, run_from};
@@ -59,20 +59,20 @@ pub fn a_filled_machine_is_picked_for_as_its_run()
     a_filled_machine_follows_the_run();
 }
 
-/// Picks made by turns or by a generator lead from any orderly state of a carried net to one where
-/// nothing can fire, if the bound of picks is at least that of the law of runs; a greater bound
-/// makes no more picks.
+/// Picks made by turns or by a generator lead from any orderly state of a net with invariants to
+/// one where nothing can fire, if the bound of picks is at least that of the law of runs; a greater
+/// bound makes no more picks.
 pub fn picks_that_are_made_lead_to_the_end()
-    ensures ends { (tree : Tree) (leaf : Leaf) (net : Net) (firings : ℕ) (carry : Carry) (s : State)
+    ensures ends { (tree : Tree) (leaf : Leaf) (net : Net) (firings : ℕ) (invariants : Invariants) (s : State)
         (way : Way) (most : ℕ)
-        → IsCarried tree leaf net firings carry → carry.orderly s ≡ true
-        → IsMade (length net.procs) way → carry.owed s + firings * length s.unsent ≤ most
+        → HasInvariants tree leaf net firings invariants → invariants.orderly s ≡ true
+        → IsMade (length net.procs) way → invariants.owed s + firings * length s.unsent ≤ most
         → IsStuck tree net
         (run_from tree leaf net s (picks_from tree leaf net most way (course_from s))).state }
-    ensures enough { (tree : Tree) (leaf : Leaf) (net : Net) (firings : ℕ) (carry : Carry)
+    ensures enough { (tree : Tree) (leaf : Leaf) (net : Net) (firings : ℕ) (invariants : Invariants)
         (s : State) (way : Way) (most more : ℕ)
-        → IsCarried tree leaf net firings carry → carry.orderly s ≡ true
-        → IsMade (length net.procs) way → carry.owed s + firings * length s.unsent ≤ most
+        → HasInvariants tree leaf net firings invariants → invariants.orderly s ≡ true
+        → IsMade (length net.procs) way → invariants.owed s + firings * length s.unsent ≤ most
         → picks_from tree leaf net (most + more) way (course_from s)
         ≡ picks_from tree leaf net most way (course_from s) }
 {}

@@ -1,4 +1,4 @@
--- What is computed from the root down, level by level.
+-- Functions of nodes that are computed from the root down, level by level.
 use Rattle.std.proofs.Common.{◌≡◌, ℕ, zero, suc, ◌-◌, ◌<◌, ◌≤◌, false, List, [], ◌∷◌, ◌++◌, slice_index, sum_by, refl, ap, ◌∙◌, arith, append_assoc}
 use Rattle.std.proofs.Math.ListN.{length}
 use Rattle.std.proofs.lemmas.List.{get_or_past}

@@ -1,4 +1,4 @@
--- A node's meaning does not hang on the depth to which it is looked at, once its subtree ends there.
+-- A node's meaning doesn't depend on the depth bound, once its subtree ends within it.
 use Rattle.std.proofs.Common.{◌≡◌, ℕ, ℤ, zero, suc, ◌+◌, ◌<◌, ◌≤◌, List, [], ◌∷◌, length, refl, arith, ap, sym, ◌∙◌, subst, inl, inr}
 use Rattle.std.proofs.lemmas.Bool.{cases_lt}
 use Rattle.p3l_base.specs.declared.outcome.Outcome.{Outcome}
@@ -25,7 +25,7 @@ in_order-same f g [] outcome same = refl
 in_order-same f g (p ∷ ps) outcome same =
     ap (λ m. in_order f ps (on_value m outcome)) same.0 ∙ in_order-same f g ps (on_value (g p) outcome) same.1
 
--- what a lawful node makes of words hangs on what its parts do alone
+-- a lawful node's result on words depends only on the results of its parts
 item_row-same : (tree : Tree) (rescue : Outcome → Outcome) (leaf : ℕ → List ℤ → Outcome) (home : ℕ) (form : Form) (ins outs : ℕ) (parts : List ℕ) (f g : ℕ → List ℤ → Outcome) → IsLawfulForm tree form ins outs parts → SameAt f g parts → (words : List ℤ) → item_row rescue leaf home form parts f words ≡ item_row rescue leaf home form parts g words
 unfolding SameAt
 item_row-same tree rescue leaf home Seq ins outs parts f g lawful same words = refl

@@ -32,7 +32,7 @@ length-arrays_words results second [] at = refl
 length-arrays_words results second (s ∷ ss) at =
     omega (arith, length-append (array_words (result_word results second) s.dims 0 0 at) (arrays_words results second ss (at + cut_size s.dims)), length-array_words (result_word results second) s.dims 0 0 at, length-arrays_words results second ss (at + cut_size s.dims))
 
--- what is joined to n words, whatever the results
+-- gathered outcomes have n words if each join has n words, whatever the results
 gathered-keeps : (join : List (List ℤ) → List ℤ) (n : ℕ) (outcomes : List Outcome) → ((results : List (List ℤ)) → length (join results) ≡ n) → HasLength n (gathered join outcomes)
 gathered-keeps join n [] kept = kept []
 gathered-keeps join n (Trapped trap ∷ outcomes) kept = tt
@@ -104,7 +104,7 @@ turned-keeps body condition spent n (suc t) words last kept fits =
     after_body n (turned body condition spent t) condition (body words) (kept words fits)
     (λ result long. turned-keeps body condition spent n t result last kept long)
 
--- what is rescued has the words that are wanted
+-- a rescued outcome has the wanted number of words
 rescued-keeps : (number : Option ℤ) (outs : ℕ) (outcome : Outcome) → HasLength outs outcome → HasLength outs (rescued number outs outcome)
 rescued-keeps None outs outcome long = long
 rescued-keeps (Some number) outs (Value words) long = long

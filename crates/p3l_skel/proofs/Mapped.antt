@@ -13,7 +13,7 @@ use Rattle.p3l_skel.specs.Fold.{combined, tree_fold}
 use Rattle.p3l_skel.specs.Item.{on_value, gathered}
 use Rattle.p3l_skel.proofs.Folds.{tree_fold-one, tree_fold-halves}
 
--- what holds of the one outcome that a call may give
+-- a property of the one outcome that a call may give holds of its result
 pub if_ok-along : (P : Outcome → Type 0) (r : Result Outcome NoMemory) (x : Outcome) → P x → IfOk r (λ o. o ≡ x) → IfOk r P
 if_ok-along P (Ok o) x holds same = subst P (sym same) holds
 if_ok-along P (Err e) x holds same = tt
@@ -84,7 +84,7 @@ combined-fits n (Trapped trap) y left right = tt
 combined-fits n (Value v) (Trapped trap) left right = tt
 combined-fits n (Value v) (Value w) left right = omega (arith, length-append v w)
 
--- what two halves come to fits an operator of twice the words
+-- the outcome of two halves fits an operator of twice the words
 pub paired-fits : (n ins : ℕ) (left right both : Outcome) → ((operator : List ℤ → Outcome) → on_value operator both ≡ combined operator left right) → ins ≡ 2 * n → HasLength n left → HasLength n right → HasLength ins both
 paired-fits n ins left right both paired twice long longer =
     subst (λ m. HasLength m both) (sym twice) (subst (HasLength (2 * n)) (sym (paired (λ words. Value words)) ∙ on_value-itself both) (combined-fits n left right long longer))

@@ -1,4 +1,4 @@
--- What a lawful node knows of its parts.
+-- Facts about the parts of a lawful node.
 use Rattle.std.proofs.Common.{rules, ◌≡◌, ℕ, ℤ, zero, suc, ◌+◌, ◌-◌, ◌*◌, ◌/◌, ◌<◌, ◌≤◌, true, IsTrue, Option, List, [], ◌∷◌, get_or, length, slice_index, arith, ap, sym, ◌∙◌, subst}
 use Rattle.std.proofs.Math.Nat.{mul-div_cancel}
 use Rattle.p3l_base.specs.declared.cut.Cut.{Cut}

@@ -13,7 +13,7 @@ use Rattle.p3l_base.specs.Slice.{array_size, cut_size, taken_size}
 use Rattle.p3l_base.specs.Cut.{FollowOneAnother}
 use Rattle.p3l_skel.specs.Lawful.{IsSize}
 
--- what a loop reads past the dimensions
+-- the dimension that a loop reads past the last
 abbrev pub no_dim : Dim
 no_dim = record { size = 0; place = Rest }
 

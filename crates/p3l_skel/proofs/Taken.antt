@@ -13,7 +13,7 @@ TakesLawful-append tree (k ∷ ks) more [] middle rest front back = front
 TakesLawful-append tree (k ∷ ks) more (n ∷ ns) middle rest front back =
     (front.0, TakesLawful-append tree ks more ns middle rest front.1 back)
 
--- what is left over after the first nodes' counts
+-- the counts left over after the first nodes' are those of the further nodes
 pub TakesLawful-split : (tree : Tree) (ks more ns rest : List ℕ) → TakesLawful tree (ks ++ more) ns rest → (middle : List ℕ) × TakesLawful tree ks ns middle × TakesLawful tree more middle rest
 TakesLawful-split tree [] more ns rest all = (ns, refl, all)
 TakesLawful-split tree (k ∷ ks) more [] rest all = absurd all
@@ -39,7 +39,7 @@ TakesLawful-more tree own f items i d ns middle rest inside front back =
     rw (take_more items i d inside, ← flat_map_more f own (take i items) (get_or items i d))
     (TakesLawful-append tree (own ++ flat_map f (take i items)) (f (get_or items i d)) ns middle rest front back)
 
--- where the counts of one part are not lawful, nor are the whole
+-- the counts of the whole are not lawful if those of one part are not
 pub TakesLawful-stops : (tree : Tree) (own : List ℕ) (f : ℕ → List ℕ) (items : List ℕ) (i d : ℕ) (ns middle rest : List ℕ) → i < length items → TakesLawful tree (own ++ flat_map f (take i items)) ns middle → ((after : List ℕ) → TakesLawful tree (f (get_or items i d)) middle after → ⊥) → TakesLawful tree (own ++ flat_map f items) ns rest → ⊥
 TakesLawful-stops tree own f items i d ns middle rest inside front wrong whole =
     let separated : TakesLawful tree ((own ++ flat_map f (take i items)) ++ (f (get_or items i d) ++ flat_map f (drop (suc i) items))) ns rest =

@@ -26,7 +26,7 @@ abbrev pub half : List ℤ → Outcome
 half (x ∷ (c ∷ [])) = Value (int_div x (pos 2) ∷ ((c +ℤ pos 1) ∷ []))
 half words = trap Shift
 
--- whether the first word is above 1
+-- the word 1 if the first word is above 1, otherwise 0
 abbrev pub more : List ℤ → Outcome
 more (pos (suc (suc n)) ∷ words) = Value (pos 1 ∷ [])
 more words = Value (pos 0 ∷ [])

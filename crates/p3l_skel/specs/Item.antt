@@ -1,4 +1,4 @@
--- What a tree makes of an item: a function on words, with no process and no channel.
+-- The meaning of a tree for an item: a function on words, with no process and no channel.
 use Rattle.std.specs.Prelude.{ℕ, ℤ, pos, zero, suc, ◌/◌, Bool, true, false, if◌then◌else◌, Option, Some, None, List, [], ◌∷◌, length, map, take, drop, replicate, slice_index}
 use Rattle.std.specs.List.{range_with_len}
 use Rattle.p3l_base.specs.declared.cut.Cut.{Cut}
@@ -17,7 +17,7 @@ abbrev pub on_value : (List ℤ → Outcome) → Outcome → Outcome
 on_value meaning (Value words) = meaning words
 on_value meaning (Trapped trap) = Trapped trap
 
--- what stages in order make of an outcome
+-- the outcome of stages in order on an outcome
 abbrev pub in_order : (ℕ → List ℤ → Outcome) → List ℕ → Outcome → Outcome
 in_order meaning [] outcome = outcome
 in_order meaning (p ∷ ps) outcome = in_order meaning ps (on_value (meaning p) outcome)
@@ -50,14 +50,14 @@ elements size words = pieces (length words / size) size words
 abbrev pub reduced : ℕ → (List ℤ → Outcome) → List ℤ → Outcome
 reduced size operator words = tree_fold operator (map (λ element. Value element) (elements size words))
 
--- whether a condition's words say that a loop is done: the word is 0
+-- true exactly if a condition's words say that a loop is done: the first word is 0
 abbrev pub is_done : List ℤ → Bool
 is_done [] = false
 is_done (pos zero ∷ more) = true
 is_done (word ∷ more) = false
 
--- what the body and the condition make of words with n turns left, and `spent` where the
--- last of them is to be followed by another
+-- the outcome of the body and the condition on words with n turns left; `spent` if a turn is to
+-- follow the last of them
 abbrev pub turned : (List ℤ → Outcome) → (List ℤ → Outcome) → Outcome → ℕ → List ℤ → Outcome
 turned body condition spent zero words = spent
 turned body condition spent (suc t) words =
@@ -68,18 +68,18 @@ turned body condition spent (suc t) words =
 abbrev pub turns_spent : ℕ → Outcome
 turns_spent home = Trapped (record { kind = Turns; «module» = home })
 
--- what a rescue number makes of an outcome: a trap becomes `outs` words, each the number
+-- the outcome under a rescue number: a trap becomes `outs` words, each the number
 abbrev pub rescued : Option ℤ → ℕ → Outcome → Outcome
 rescued None outs outcome = outcome
 rescued (Some number) outs (Value words) = Value words
 rescued (Some number) outs (Trapped trap) = Value (replicate outs number)
 
--- what the rescue number of a node's module, if it has one, makes of an outcome
+-- the outcome under the rescue number of a node's module, if it has one
 abbrev pub rescued_at : Tree → ℕ → Outcome → Outcome
 rescued_at tree node = rescued (rescue_of tree (node_at tree node).module) (node_at tree node).outs
 
--- what a node of a module makes of words, where it is known what its parts do, and what the module's
--- rescue number makes of an outcome
+-- the outcome of a node of a module on words, given the outcomes of its parts, and the outcome under
+-- the module's rescue number
 abbrev pub item_row : (Outcome → Outcome) → (ℕ → List ℤ → Outcome) → ℕ → Form → List ℕ → (ℕ → List ℤ → Outcome) → List ℤ → Outcome
 item_row rescue leaf home Seq parts part words = rescue (leaf home words)
 item_row rescue leaf home Comp parts part words = rescue (in_order part parts (Value words))
@@ -90,14 +90,14 @@ item_row rescue leaf home (Reduce w len elem) parts part words = reduced elem (p
 item_row rescue leaf home (Loop turns tokens) parts part words =
     turned (part (slice_index parts 0)) (part (slice_index parts 1)) (turns_spent home) turns words
 
--- what a node makes of the words of an item, where it is known what each `seq` module does, down to
+-- the outcome of a node on the words of an item, given the outcome of each `seq` module, down to
 -- a depth
 unfoldable pub item_to : Tree → (ℕ → List ℤ → Outcome) → ℕ → ℕ → List ℤ → Outcome
 item_to tree leaf =
     by_parts (λ part k. item_row (rescued_at tree k) leaf (node_at tree k).module (node_at tree k).form (node_at tree k).parts part)
     (λ k words. leaf (node_at tree k).module words)
 
--- what a node makes of the words of an item, where it is known what each `seq` module does
+-- the outcome of a node on the words of an item, given the outcome of each `seq` module
 abbrev pub item : Tree → (ℕ → List ℤ → Outcome) → ℕ → List ℤ → Outcome
 item tree leaf node words = item_to tree leaf nesting node words
 

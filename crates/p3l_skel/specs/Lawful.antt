@@ -98,7 +98,7 @@ pub record IsLawfulLoop (tree : Tree) (turns tokens ins outs body condition : �
   pub limits : HasLoopLimits turns tokens
   pub parts : AreLoopParts tree ins outs body condition
 
--- what a node of a form owes besides: its parts fit it
+-- the further law for a node of a form: its parts fit it
 abbrev pub IsLawfulForm : Tree → Form → ℕ → ℕ → List ℕ → Type 0
 IsLawfulForm tree Seq ins outs parts = parts ≡ []
 IsLawfulForm tree Comp ins outs parts = (1 ≤ length parts) × IsChain tree ins outs parts × All (IsSequential tree) parts
@@ -122,7 +122,7 @@ kind_of (Loop turns tokens) = kind.Loop
 abbrev pub HasKind : List ModuleInfo → ℕ → ModuleKind → Type 0
 HasKind modules home k = IsSomeAnd (slice_get modules home) (λ (m : ModuleInfo). m.kind ≡ k)
 
--- whether a module that is written with this skeleton may have a rescue number
+-- true exactly if a module that is written with this skeleton may have a rescue number
 abbrev pub may_rescue : ModuleKind → Bool
 may_rescue kind.Seq = true
 may_rescue kind.Comp = true

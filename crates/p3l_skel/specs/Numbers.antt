@@ -1,4 +1,4 @@
--- How many processes a tree has, and how often they fire for one item.
+-- Counts of a tree's processes, and of their firings for one item.
 use Rattle.std.specs.Prelude.{ℕ, zero, suc, ◌+◌, ◌-◌, ◌*◌, ◌^◌, ◌≤◌, ◌==◌, nat_le, if◌then◌else◌, unwrap_or, List, sum_by}
 use Rattle.p3l_base.specs.Cut.{element_count}
 use Rattle.p3l_skel.specs.declared.tree.Form.{Form}
@@ -39,7 +39,7 @@ procs_row (Map w cut) n inner = 2 + n * inner
 procs_row (Reduce w len elem) n inner = joined_procs n
 procs_row (Loop turns tokens) n inner = 2 + inner
 
--- what the parts of a node that are outside units have in all
+-- the sum over a node's parts that are outside units
 abbrev pub inner_sum : Tree → (ℕ → ℕ) → ℕ → ℕ
 inner_sum tree below node = sum_by below (outside_parts (node_at tree node).form (node_at tree node).parts)
 
@@ -82,8 +82,8 @@ firings tree counts = firings_by joined_firings tree (count_of tree counts) nest
 abbrev pub bound : Tree → List ℕ → ℕ → ℕ
 bound tree counts items = items * firings tree counts
 
--- how often a node of this form runs bodies for one item, at most, where its parts do so `inner`
--- times in all
+-- the greatest number of body runs of a node of this form for one item, if its parts have `inner`
+-- in all
 abbrev pub runs_row : Form → ℕ → ℕ
 runs_row Seq inner = 1
 runs_row Comp inner = inner
@@ -93,11 +93,11 @@ runs_row (Map w cut) inner = element_count cut * inner
 runs_row (Reduce w len elem) inner = (len - 1) * inner
 runs_row (Loop turns tokens) inner = turns * inner
 
--- how often a node runs bodies for one item, at most, down to a depth
+-- the greatest number of body runs of a node for one item, down to a depth
 unfoldable pub runs_to : Tree → ℕ → ℕ → ℕ
 runs_to tree = by_parts (λ below k. runs_row (node_at tree k).form (sum_by below (node_at tree k).parts)) (λ k. 1)
 
--- how often a node runs bodies for one item, at most
+-- the greatest number of body runs of a node for one item
 abbrev pub runs : Tree → ℕ → ℕ
 runs tree node = runs_to tree nesting node
 

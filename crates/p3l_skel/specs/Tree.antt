@@ -9,11 +9,11 @@ use Rattle.p3l_skel.specs.declared.tree.ModuleInfo.{ModuleInfo}
 use Rattle.p3l_skel.specs.declared.tree.Node.{Node}
 use Rattle.p3l_skel.specs.declared.tree.Tree.{Tree}
 
--- how deep nodes are nested at most, the root counting as one level
+-- the greatest depth of nested nodes, the root counting as one level
 abbrev pub nesting : ℕ
 nesting = 6
 
--- what a number past the nodes is read as: a pipe of nothing
+-- the node for a number past the nodes: a pipe of nothing
 abbrev pub no_node : Node
 no_node = record { form = Pipe; «module» = 0; ins = 0; outs = 0; parts = [] }
 
@@ -28,7 +28,7 @@ seq_tree name ins outs = record {
 abbrev pub node_at : Tree → ℕ → Node
 node_at tree node = slice_index_or tree.nodes node no_node
 
--- what a number past the modules is read as: a module with no name
+-- the module for a number past the modules: a module with no name
 abbrev pub no_module : ModuleInfo
 no_module = record { name = []; kind = kind.Seq; rescue = None }
 
@@ -40,13 +40,13 @@ rescue_of tree home = (slice_index_or tree.modules home no_module).rescue
 abbrev pub part_at : Tree → ℕ → ℕ → ℕ
 part_at tree node k = slice_index (node_at tree node).parts k
 
--- what a node comes to, where `row` makes it from what other nodes come to; at depth 0 it is what
--- the node comes to as a leaf
+-- the value of a node, which `row` makes from the values of other nodes; at depth 0 it is
+-- the node's value as a leaf
 unfoldable pub by_parts : {X : Type 0} → ((ℕ → X) → ℕ → X) → (ℕ → X) → ℕ → ℕ → X
 by_parts row leaf zero node = leaf node
 by_parts row leaf (suc d) node = row (by_parts row leaf d) node
 
--- whether a node of this form is sequential, where it is known whether its first part is
+-- true exactly if a node of this form is sequential, given whether its first part is
 abbrev pub sequential_row : Form → Bool → Bool
 sequential_row Seq part = true
 sequential_row Comp part = true
@@ -56,12 +56,12 @@ sequential_row (Map w cut) part = part
 sequential_row (Reduce w len elem) part = part
 sequential_row (Loop turns tokens) part = false
 
--- whether a node is sequential, down to a depth
+-- true exactly if a node is sequential, down to a depth
 unfoldable pub sequential_to : Tree → ℕ → ℕ → Bool
 sequential_to tree =
     by_parts (λ below k. sequential_row (node_at tree k).form (below (slice_index (node_at tree k).parts 0))) (λ k. false)
 
--- whether a node is sequential: a seq, a comp, or a map or reduce of a sequential part
+-- true exactly if a node is sequential: a seq, a comp, or a map or reduce of a sequential part
 abbrev pub is_sequential : Tree → ℕ → Bool
 is_sequential tree node = sequential_to tree nesting node
 
@@ -89,7 +89,7 @@ abbrev pub HasLength : ℕ → Outcome → Type 0
 HasLength n (Value words) = length words ≡ n
 HasLength n (Trapped trap) = ⊤
 
--- what the `seq` modules give has the out words of their nodes
+-- the results of the `seq` modules have the out words of their nodes
 abbrev pub GivesOuts : Tree → (ℕ → List ℤ → Outcome) → Type 0
 GivesOuts tree leaf =
     (node : ℕ) (words : List ℤ) → node < length tree.nodes → (node_at tree node).form ≡ Seq →

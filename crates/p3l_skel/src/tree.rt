@@ -54,7 +54,7 @@ pub struct Node {
     pub parts: List<u32>,
 }
 
-/// A module of the program. Where it has a rescue number, a trap that arises within one of its nodes
+/// A module of the program. If it has a rescue number, a trap that arises within one of its nodes
 /// becomes a value whose words are all this number: only a `seq` or `comp` module may have one.
 #[derive(Debug, Drop)]
 pub struct ModuleInfo {
@@ -83,8 +83,8 @@ pub struct Tree {
     pub modules: List<ModuleInfo>,
 }
 
-/// How many workers, or segments of a reduce, each farm, map and reduce node outside units has, in
-/// preorder.
+/// The numbers of workers, or of segments of a reduce, of all farm, map and reduce nodes outside
+/// units, in preorder.
 #[derive(Debug, Drop)]
 pub struct Counts {
     pub list: List<u32>,

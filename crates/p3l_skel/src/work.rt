@@ -1,4 +1,4 @@
-// How much work one item makes, counted up to the limit.
+// The work that one item makes, counted up to the limit.
 
 ghost use Rattle.std.specs.Prelude.{◌≡◌, ◌↔◌, ◌≤◌, ◌<◌, ◌+◌, IsTrue, min};
 ghost use Rattle.p3l_skel.specs.Numbers.{most_segments, power_up_to, reduce_firings, firings_row, firings_by, segments_at, runs_row, runs_to, runs};

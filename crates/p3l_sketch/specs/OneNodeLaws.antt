@@ -1,4 +1,4 @@
--- What the body of the tree of one node gives.
+-- The body of the tree of one node gives as many words as the node has outs.
 use Rattle.std.proofs.Common.{◌≡◌, ℕ, ℤ, zero, suc, ◌<◌, List, length, arith}
 use Rattle.p3l_skel.specs.declared.tree.Form.TheVariants.{Seq}
 use Rattle.p3l_skel.specs.Tree.{GivesOuts, HasLength, node_at}

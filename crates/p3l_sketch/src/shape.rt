@@ -12,7 +12,7 @@ pub type Array = (u32, &'static [Dim]);
 
 /// The form of a node, as a table gives it.
 #[derive(Clone, Copy, Drop)]
-pub enum Shape {
+pub enum NodeForm {
     Seq,
     Comp,
     Pipe,
@@ -69,19 +69,19 @@ pub fn cut_of(
 }
 
 /// The form of a node of this shape.
-pub fn form_of(alloc: Global, shape: Shape) -> Result<Form, NoMemory>
+pub fn form_of(alloc: Global, shape: NodeForm) -> Result<Form, NoMemory>
     ensures { OnErr result Refused }
 {
     Ok(match shape {
-        Shape::Seq => Form::Seq,
-        Shape::Comp => Form::Comp,
-        Shape::Pipe => Form::Pipe,
-        Shape::Farm(workers) => Form::Farm { workers },
-        Shape::Map(workers, first, second, ins, outs) => Form::Map {
+        NodeForm::Seq => Form::Seq,
+        NodeForm::Comp => Form::Comp,
+        NodeForm::Pipe => Form::Pipe,
+        NodeForm::Farm(workers) => Form::Farm { workers },
+        NodeForm::Map(workers, first, second, ins, outs) => Form::Map {
             workers,
             cut: cut_of(alloc, first, second, ins, outs)?,
         },
-        Shape::Reduce(workers, len, elem) => Form::Reduce { workers, len, elem },
-        Shape::Loop(turns, tokens) => Form::Loop { turns, tokens },
+        NodeForm::Reduce(workers, len, elem) => Form::Reduce { workers, len, elem },
+        NodeForm::Loop(turns, tokens) => Form::Loop { turns, tokens },
     })
 }

@@ -3,16 +3,16 @@
 ghost use Rattle.std.specs.Prelude.{OnErr};
 ghost use Rattle.p3l_base.specs.Memory.{Refused};
 
-use crate::shape::{Shape, form_of, list_of};
+use crate::shape::{NodeForm, form_of, list_of};
 use p3l_base::{List, Name, NoMemory};
 use p3l_skel::{Counts, Form, ModuleInfo, ModuleKind, Node, Tree};
 use std::alloc::Global;
 
 /// A node of a module of its own: its shape, the words that it takes and gives, and its parts.
-pub type Row = (Shape, u32, u32, &'static [u32]);
+pub type Row = (NodeForm, u32, u32, &'static [u32]);
 
 /// A node: its shape, its module, the words that it takes and gives, and its parts.
-pub type ModuleRow = (Shape, u32, u32, u32, &'static [u32]);
+pub type ModuleRow = (NodeForm, u32, u32, u32, &'static [u32]);
 
 /// A tree: its nodes, and the kinds of its modules.
 pub type Sketch = (&'static [ModuleRow], &'static [ModuleKind]);

@@ -10,7 +10,7 @@ use Rattle.p3l_firing.proofs.OutcomesLaw.{meaning_is}
 use Rattle.p3l_skel.specs.declared.tree.Tree.{Tree}
 use Rattle.p3l_firing.specs.declared.net.Net.{Net}
 use Rattle.p3l_firing.specs.declared.token.Token.{Token}
-use Rattle.p3l_firing.specs.Carried.{Carry, HaveInWords, IsCarried}
+use Rattle.p3l_firing.specs.NetInvariants.{Invariants, HaveInWords, HasInvariants}
 use Rattle.p3l_firing.specs.Fire.{is_ready, can_fire, fire, IsStuck}
 use Rattle.p3l_firing.specs.Lists.{has_first}
 use Rattle.p3l_firing.specs.Nodes.{Leaf}
@@ -18,7 +18,7 @@ use Rattle.p3l_firing.specs.Run.{Course}
 use Rattle.p3l_firing.specs.State.{State, has_room, first_state}
 use Rattle.p3l_firing.specs.Token.{has_trap}
 use Rattle.p3l_firing.specs.Ways.{eyes_of, Knows}
-use Rattle.p3l_firing.proofs.CarriedLaw.{first_orderly, carried_begins, carried_bounded, carried_sent, carried_finished}
+use Rattle.p3l_firing.proofs.InvariantsLaw.{first_orderly, invariants_begin, invariants_bound, invariants_sent, invariants_finish}
 use Rattle.p3l_firing.proofs.Fitting.{fitting_at_first}
 use Rattle.p3l_firing.proofs.FittingWays.{fitting_way}
 use Rattle.p3l_firing.proofs.OrderlyLaw.{IsKeptFrom, kept_first, kept_way}
@@ -27,9 +27,9 @@ use Rattle.p3l_firing.proofs.row.{fitting_first}
 use Rattle.p3l_firing.specs.Typed.{IsTyped, IsFitting}
 use Rattle.p3l_skel.specs.Numbers.{firings}
 use Rattle.p3l_skel.specs.Tree.{GivesOuts}
-use Rattle.p3l_link.proofs.LinkedLaws.{net_carried}
+use Rattle.p3l_link.proofs.LinkedLaws.{net_has_invariants}
 use Rattle.p3l_link.specs.Laws.{net_of}
-use Rattle.p3l_link.specs.Whole.{root_carry}
+use Rattle.p3l_link.specs.Whole.{root_invariants}
 use Rattle.p3l_spread_laws.specs.Laws.{EveryTypedNetBegins, EveryStepStaysSound, EveryViewIsTrue, DeliveredMeansQuiet, QuietMeansStuck, EverySpreadRunMeansItsItems, EveryLinkedSpreadRunMeansItsItems, EverySpreadRunFits, Means}
 use Rattle.p3l_spread_laws.specs.Spread.{Spread, IsSound, view, Fires, Learns, Step, IsBegun, IsRun, IsQuiet}
 
@@ -142,20 +142,20 @@ trap_stuck : (tree : Tree) (net : Net) (s : State) → has_trap s.emitted ≡ tr
 unfolding can_fire
 trap_stuck tree net s trap = λ p. ap (λ b. not b && is_ready tree net s p) trap
 
-module _ (tree : Tree) (leaf : Leaf) (net : Net) (most : ℕ) (carry : Carry) (laws : IsCarried tree leaf net most carry)
+module _ (tree : Tree) (leaf : Leaf) (net : Net) (most : ℕ) (invariants : Invariants) (laws : HasInvariants tree leaf net most invariants)
     (items : List (List ℤ)) (long : HaveInWords tree items) where
   -- the invariant of spread runs
   record IsKept (d : Spread) : Type 0 where
     sound : IsSound net d
-    kept : IsKeptFrom tree leaf most carry (first_state net items) (course d)
+    kept : IsKeptFrom tree leaf most invariants (first_state net items) (course d)
 
   begun_kept : (d : Spread) → IsBegun net items d → IsKept d
   begun_kept d b = record {
     sound = b.sound;
-    kept = subst (IsKeptFrom tree leaf most carry (first_state net items))
+    kept = subst (IsKeptFrom tree leaf most invariants (first_state net items))
         (sym (ap₂ (λ s n. record { state = s; fired = n; idle = 0 }) b.state b.fired))
-        (kept_first tree leaf net most carry laws (first_state net items)
-        (first_orderly tree leaf net most carry laws items long));
+        (kept_first tree leaf net most invariants laws (first_state net items)
+        (first_orderly tree leaf net most invariants laws items long));
   }
 
   step_kept : (d e : Spread) → IsKept d → Step tree leaf net d e → IsKept e
@@ -163,12 +163,12 @@ module _ (tree : Tree) (leaf : Leaf) (net : Net) (most : ℕ) (carry : Carry) (l
     sound = stays_sound tree leaf net d e k.sound step;
     kept = elim step [
       | inl f ↦
-          subst (λ n. IsKeptFrom tree leaf most carry (first_state net items) (record { state = e.state; fired = n; idle = 0 }))
+          subst (λ n. IsKeptFrom tree leaf most invariants (first_state net items) (record { state = e.state; fired = n; idle = 0 }))
           (sym f.count)
-          (kept_way tree leaf net most carry laws (first_state net items) (course d) f.by e.state k.kept
+          (kept_way tree leaf net most invariants laws (first_state net items) (course d) f.by e.state k.kept
           (view_true tree leaf net d f.by e.state k.sound f.way))
       | inr l ↦
-          subst (IsKeptFrom tree leaf most carry (first_state net items))
+          subst (IsKeptFrom tree leaf most invariants (first_state net items))
           (sym (ap₂ (λ s n. record { state = s; fired = n; idle = 0 }) l.state l.fired)) k.kept
     ];
   }
@@ -183,16 +183,16 @@ module _ (tree : Tree) (leaf : Leaf) (net : Net) (most : ℕ) (carry : Carry) (l
   run_means at n r =
       let k = run_kept at n r in
       record {
-        begins = carried_begins tree leaf net most carry laws items long (course (at n)) k.kept;
-        bounded = carried_bounded tree leaf net most carry laws items long (course (at n)) k.kept;
-        sent = carried_sent tree leaf net most carry laws items long (course (at n)) k.kept;
+        begins = invariants_begin tree leaf net most invariants laws items long (course (at n)) k.kept;
+        bounded = invariants_bound tree leaf net most invariants laws items long (course (at n)) k.kept;
+        sent = invariants_sent tree leaf net most invariants laws items long (course (at n)) k.kept;
         counted = λ all.
             all_counted tree leaf items (at n).state.emitted
-            (carried_begins tree leaf net most carry laws items long (course (at n)) k.kept) all;
+            (invariants_begin tree leaf net most invariants laws items long (course (at n)) k.kept) all;
         trapped = λ trap.
-            carried_finished tree leaf net most carry laws items long (course (at n)) k.kept (trap_stuck tree net (at n).state trap);
+            invariants_finish tree leaf net most invariants laws items long (course (at n)) k.kept (trap_stuck tree net (at n).state trap);
         finished = λ quiet.
-            carried_finished tree leaf net most carry laws items long (course (at n)) k.kept
+            invariants_finish tree leaf net most invariants laws items long (course (at n)) k.kept
             (quiet_stuck tree leaf net (at n) quiet);
       }
 
@@ -228,9 +228,9 @@ spread_fits tree leaf net typed items at n gives long r = (run_fits tree leaf ne
 
 pub linked_spread_means : EveryLinkedSpreadRunMeansItsItems
 linked_spread_means units counts cap items at n linkable long r =
-    run_means units.tree units.leaf (net_of units counts cap) (firings units.tree counts) (root_carry units counts)
-    (net_carried units counts cap linkable) items long at n r
+    run_means units.tree units.leaf (net_of units counts cap) (firings units.tree counts) (root_invariants units counts)
+    (net_has_invariants units counts cap linkable) items long at n r
 
 pub spread_means : EverySpreadRunMeansItsItems
-spread_means tree leaf net most carry items at n laws long r =
-    run_means tree leaf net most carry laws items long at n r
+spread_means tree leaf net most invariants items at n laws long r =
+    run_means tree leaf net most invariants laws items long at n r

@@ -4,26 +4,26 @@ use Rattle.p3l_skel.specs.declared.tree.Tree.{Tree}
 use Rattle.p3l_ready.proofs.AtLemmas.{same_function}
 use Rattle.p3l_firing.specs.declared.net.Net.{Net}
 use Rattle.p3l_firing.specs.Nodes.{Leaf}
-use Rattle.p3l_spread_laws.specs.Laws.{EveryWiredRunIsSpread, IdleMeansQuiet, EveryLinkedWiredRunMeansItsItems}
+use Rattle.p3l_spread_laws.specs.Laws.{EveryDistributedRunIsSpread, IdleMeansQuiet, EveryLinkedDistributedRunMeansItsItems}
 use Rattle.p3l_spread_laws.specs.Spread as spread
-use Rattle.p3l_spread_laws.specs.Wire.{Wired, spread_of, IsExact, Passes, Fires, Comes, Delivers, IsWiredRun}
+use Rattle.p3l_spread_laws.specs.Wire.{Distributed, spread_of, IsExact, Passes, Fires, Comes, Delivers, IsDistributedRun}
 use Rattle.p3l_spread_laws.proofs.SpreadLaw.{linked_spread_means, delivered_quiet}
 
-passes_exact : (net : Net) (w x : Wired) → ((c : ℕ) → Passes w x c) → IsExact net w → IsExact net x
+passes_exact : (net : Net) (w x : Distributed) → ((c : ℕ) → Passes w x c) → IsExact net w → IsExact net x
 passes_exact net w x h e c =
     let p = h c in
     let r = ap length p.ring ∙ length-append p.taken (x.ring c) in
     let f = ap length p.flight ∙ length-append (w.flight c) p.given in
     omega (arith, r, f, p.credit, p.back, e c)
 
-comes_exact : (net : Net) (w x : Wired) → ((c : ℕ) → Comes w x c) → IsExact net w → IsExact net x
+comes_exact : (net : Net) (w x : Distributed) → ((c : ℕ) → Comes w x c) → IsExact net w → IsExact net x
 comes_exact net w x h e c =
     let p = h c in
     let r = ap length p.ring ∙ length-append (w.ring c) p.came in
     let f = ap length p.flight ∙ length-append p.came (x.flight c) in
     omega (arith, r, f, p.credit, p.back, e c)
 
-fires_shift : (w x : Wired) (c : ℕ) → Passes w x c → spread.Shifts (spread_of w) (spread_of x) c
+fires_shift : (w x : Distributed) (c : ℕ) → Passes w x c → spread.Shifts (spread_of w) (spread_of x) c
 fires_shift w x c p = record {
   taken = p.taken;
   kept = x.ring c ++ w.flight c;
@@ -34,11 +34,11 @@ fires_shift w x c p = record {
   credit = p.credit;
 }
 
-same_tokens : (w x : Wired) (c : ℕ) → Comes w x c → x.ring c ++ x.flight c ≡ w.ring c ++ w.flight c
+same_tokens : (w x : Distributed) (c : ℕ) → Comes w x c → x.ring c ++ x.flight c ≡ w.ring c ++ w.flight c
 same_tokens w x c p =
     ap (λ z. z ++ x.flight c) p.ring ∙ append_assoc (w.ring c) p.came (x.flight c) ∙ ap (λ z. w.ring c ++ z) (sym p.flight)
 
-delivers_learns : (net : Net) (w x : Wired) → IsExact net w → Delivers w x → spread.Learns net (spread_of w) (spread_of x)
+delivers_learns : (net : Net) (w x : Distributed) → IsExact net w → Delivers w x → spread.Learns net (spread_of w) (spread_of x)
 delivers_learns net w x e d =
     let tokens : (spread_of x).state.tokens ≡ (spread_of w).state.tokens = same_function (λ c. same_tokens w x c (d.comes c)) in
     record {
@@ -58,12 +58,12 @@ delivers_learns net w x e d =
           omega (arith, p.credit, p.back, n, e c);
     }
 
-step_exact : (tree : Tree) (leaf : Leaf) (net : Net) (w x : Wired) → Fires tree leaf net w x ⊎ Delivers w x → IsExact net w →
+step_exact : (tree : Tree) (leaf : Leaf) (net : Net) (w x : Distributed) → Fires tree leaf net w x ⊎ Delivers w x → IsExact net w →
     IsExact net x
 step_exact tree leaf net w x step e =
     elim step [ inl f ↦ passes_exact net w x f.passes e | inr d ↦ comes_exact net w x d.comes e ]
 
-step_spread : (tree : Tree) (leaf : Leaf) (net : Net) (w x : Wired) → Fires tree leaf net w x ⊎ Delivers w x → IsExact net w →
+step_spread : (tree : Tree) (leaf : Leaf) (net : Net) (w x : Distributed) → Fires tree leaf net w x ⊎ Delivers w x → IsExact net w →
     spread.Step tree leaf net (spread_of w) (spread_of x)
 step_spread tree leaf net w x step e =
     elim step [
@@ -72,7 +72,7 @@ step_spread tree leaf net w x step e =
       | inr d ↦ inr (delivers_learns net w x e d)
     ]
 
-module _ (tree : Tree) (leaf : Leaf) (net : Net) (items : List (List ℤ)) (at : ℕ → Wired) (n : ℕ) (r : IsWiredRun tree leaf net items at n) where
+module _ (tree : Tree) (leaf : Leaf) (net : Net) (items : List (List ℤ)) (at : ℕ → Distributed) (n : ℕ) (r : IsDistributedRun tree leaf net items at n) where
   all_exact : (i : ℕ) → i ≤ n → IsExact net (at i)
   all_exact zero l = r.exact
   all_exact (suc i) l =
@@ -91,8 +91,8 @@ module _ (tree : Tree) (leaf : Leaf) (net : Net) (items : List (List ℤ)) (at :
     steps = λ i l. step_spread tree leaf net (at i) (at (suc i)) (r.steps i l) (all_exact i (omega arith));
   }
 
-pub wired_spread : EveryWiredRunIsSpread
-wired_spread tree leaf net items at n r = run_spread tree leaf net items at n r
+pub distributed_spread : EveryDistributedRunIsSpread
+distributed_spread tree leaf net items at n r = run_spread tree leaf net items at n r
 
 -- an idle net is quiet
 pub idle_quiet : IdleMeansQuiet
@@ -110,7 +110,7 @@ idle_quiet tree leaf net items at n r idle =
     })
     idle.none
 
-pub linked_wired_means : EveryLinkedWiredRunMeansItsItems
-linked_wired_means units counts cap items at n linkable long r =
+pub linked_distributed_means : EveryLinkedDistributedRunMeansItsItems
+linked_distributed_means units counts cap items at n linkable long r =
     linked_spread_means units counts cap items (λ i. spread_of (at i)) n linkable long
-    (wired_spread units.tree units.leaf _ items at n r)
+    (distributed_spread units.tree units.leaf _ items at n r)

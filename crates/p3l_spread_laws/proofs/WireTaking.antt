@@ -9,7 +9,7 @@ use Rattle.p3l_firing.specs.State.{State}
 use Rattle.p3l_firing.specs.Ways.{Sees}
 use Rattle.p3l_spread_laws.specs.Laws.{IsTaken, IsWireTaken, EveryWireCanTake}
 use Rattle.p3l_spread_laws.specs.Spread as spread
-use Rattle.p3l_spread_laws.specs.Wire.{Wired, spread_of}
+use Rattle.p3l_spread_laws.specs.Wire.{Distributed, spread_of}
 use Rattle.p3l_spread_laws.proofs.Taking.{way_taken}
 
 -- tokens taken of a ring with what is in flight behind it are tokens of the ring
@@ -23,7 +23,7 @@ parted (r ∷ rs) flight (t ∷ ts) kept e l =
     let p = parted rs flight ts kept rest (omega arith) in
     (ap (λ z. z ∷ rs) first ∙ ap (λ z. t ∷ z) p.0, p.1)
 
-module _ (tree : Tree) (leaf : Leaf) (net : Net) (w : Wired) (t : State) (k : IsTaken tree leaf net (spread_of w) t) where
+module _ (tree : Tree) (leaf : Leaf) (net : Net) (w : Distributed) (t : State) (k : IsTaken tree leaf net (spread_of w) t) where
   module _ (c : ℕ) where
     x : spread.Shifts (spread_of w) k.to c
     x = k.fires.shifts c
@@ -31,7 +31,7 @@ module _ (tree : Tree) (leaf : Leaf) (net : Net) (w : Wired) (t : State) (k : Is
     parts : (w.ring c ≡ x.taken ++ drop (length x.taken) (w.ring c)) × (drop (length x.taken) (w.ring c) ++ w.flight c ≡ x.kept)
     parts = parted (w.ring c) (w.flight c) x.taken x.kept x.before (omega (arith, x.seen))
 
-  after : Wired
+  after : Distributed
   after = record {
     own = k.to.state.own;
     unsent = k.to.state.unsent;

@@ -7,13 +7,13 @@ use Rattle.p3l_firing.specs.declared.token.Token.{Token}
 use Rattle.p3l_firing.specs.Examples.{at_root, farm_net, farm_tree, half_leaf, loop_leaf, loop_net, loop_tree, two_items}
 use Rattle.p3l_firing.specs.Fire.{fire}
 use Rattle.p3l_firing.specs.Run.{run}
-use Rattle.p3l_firing.specs.State.{Own, State, fresh}
+use Rattle.p3l_firing.specs.State.{LocalState, State, fresh}
 use Rattle.p3l_firing.specs.Token.{credit, plain}
 use Rattle.p3l_firing.specs.Ways.{Sees}
 use Rattle.p3l_firing.specs.kinds.Emit as emit
 use Rattle.p3l_firing.specs.kinds.Head as head
 use Rattle.p3l_spread_laws.specs.Spread.{Spread, Fires, IsDelivered, IsQuiet, IsSound, Learns, view}
-use Rattle.p3l_spread_laws.specs.Wire.{Wired, Delivers, IsExact, IsIdle, spread_of}
+use Rattle.p3l_spread_laws.specs.Wire.{Distributed, Delivers, IsExact, IsIdle, spread_of}
 
 -- the number of each channel in a list, and 0 of all others; and the tokens
 abbrev pub counts : List ℕ → ℕ → ℕ
@@ -39,7 +39,7 @@ abbrev pub second : Token
 second = plain (Value (pos 3 ∷ (pos 0 ∷ [])))
 
 -- process 2 has counted one token, and no process holds any
-abbrev pub counted_one : ℕ → Own
+abbrev pub counted_one : ℕ → LocalState
 counted_one p = slice_index_or (fresh ∷ (fresh ∷ (record { number = 1; held = [] } ∷ []))) p fresh
 
 -- THE FARM: the source sent an item, the emit dealt it to the first worker, this one ran it, and the source sent the second
@@ -157,7 +157,7 @@ pub record LoopValues : Type 0 where
   pub runs : IsQuiet (loop_tree 10) loop_leaf loop_net late_token → ⊥
 
 -- THE LOOP WITH ITS MESSAGES: the late token is in flight
-abbrev pub late_wire : Wired
+abbrev pub late_wire : Distributed
 late_wire = record {
   own = counted_one;
   unsent = [];
@@ -171,7 +171,7 @@ late_wire = record {
 }
 
 -- it has arrived
-abbrev pub come_wire : Wired
+abbrev pub come_wire : Distributed
 come_wire = record {
   own = counted_one;
   unsent = [];

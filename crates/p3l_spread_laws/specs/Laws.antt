@@ -5,7 +5,7 @@ use Rattle.p3l_skel.specs.Item.{meaning}
 use Rattle.p3l_skel.specs.Numbers.{firings}
 use Rattle.p3l_skel.specs.Tree.{GivesOuts}
 use Rattle.p3l_firing.specs.declared.net.Net.{Net}
-use Rattle.p3l_firing.specs.Carried.{Carry, HaveInWords, IsCarried}
+use Rattle.p3l_firing.specs.NetInvariants.{Invariants, HaveInWords, HasInvariants}
 use Rattle.p3l_firing.specs.Fire.{IsStuck}
 use Rattle.p3l_firing.specs.Nodes.{Leaf}
 use Rattle.p3l_firing.specs.Outcomes.{IsPrefixOf}
@@ -16,7 +16,7 @@ use Rattle.p3l_firing.specs.Ways.{MayFire, Sees}
 use Rattle.p3l_template.specs.Units.{Units}
 use Rattle.p3l_link.specs.Laws.{IsLinkable, net_of}
 use Rattle.p3l_spread_laws.specs.Spread.{Spread, Fires, IsSound, IsBegun, begun, IsRun, IsQuiet, IsDelivered, Step, view}
-use Rattle.p3l_spread_laws.specs.Wire.{Wired, spread_of, IsExact, IsWiredRun, IsIdle}
+use Rattle.p3l_spread_laws.specs.Wire.{Distributed, spread_of, IsExact, IsDistributedRun, IsIdle}
 use Rattle.p3l_spread_laws.specs.Wire as wire
 
 -- a typed net can begin
@@ -76,7 +76,7 @@ EverySpreadRunFits =
     GivesOuts tree leaf → HaveInWords tree items → IsRun tree leaf net items at n →
     IsFitting tree net typed.widths (at n).state
 
--- the same of linked nets, which are carried
+-- the same of linked nets, which have invariants
 abbrev pub EveryLinkedSpreadRunMeansItsItems : Type 0
 EveryLinkedSpreadRunMeansItsItems =
     (units : Units) (counts : List ℕ) (cap : ℕ) (items : List (List ℤ)) (at : ℕ → Spread) (n : ℕ) → IsLinkable units counts cap →
@@ -85,37 +85,37 @@ EveryLinkedSpreadRunMeansItsItems =
 
 abbrev pub EverySpreadRunMeansItsItems : Type 0
 EverySpreadRunMeansItsItems =
-    (tree : Tree) (leaf : Leaf) (net : Net) (most : ℕ) (carry : Carry) (items : List (List ℤ)) (at : ℕ → Spread) (n : ℕ) →
-    IsCarried tree leaf net most carry → HaveInWords tree items → IsRun tree leaf net items at n →
+    (tree : Tree) (leaf : Leaf) (net : Net) (most : ℕ) (invariants : Invariants) (items : List (List ℤ)) (at : ℕ → Spread) (n : ℕ) →
+    HasInvariants tree leaf net most invariants → HaveInWords tree items → IsRun tree leaf net items at n →
     Means tree leaf net most items (at n)
 
 -- a run with its messages is a spread run
-abbrev pub EveryWiredRunIsSpread : Type 0
-EveryWiredRunIsSpread =
-    (tree : Tree) (leaf : Leaf) (net : Net) (items : List (List ℤ)) (at : ℕ → Wired) (n : ℕ) →
-    IsWiredRun tree leaf net items at n → IsRun tree leaf net items (λ i. spread_of (at i)) n
+abbrev pub EveryDistributedRunIsSpread : Type 0
+EveryDistributedRunIsSpread =
+    (tree : Tree) (leaf : Leaf) (net : Net) (items : List (List ℤ)) (at : ℕ → Distributed) (n : ℕ) →
+    IsDistributedRun tree leaf net items at n → IsRun tree leaf net items (λ i. spread_of (at i)) n
 
 -- the firing to state t can be taken with its messages
-pub record IsWireTaken (tree : Tree) (leaf : Leaf) (net : Net) (w : Wired) (t : State) : Type 0 where
-  pub to : Wired
+pub record IsWireTaken (tree : Tree) (leaf : Leaf) (net : Net) (w : Distributed) (t : State) : Type 0 where
+  pub to : Distributed
   pub state : (spread_of to).state ≡ t
   pub fires : wire.Fires tree leaf net w to
 
 -- in a typed net every open way can be taken with its messages
 abbrev pub EveryWireCanTake : Type 0
 EveryWireCanTake =
-    (tree : Tree) (leaf : Leaf) (net : Net) (typed : IsTyped tree net) (w : Wired) (p : ℕ) (t : State) → IsExact net w →
+    (tree : Tree) (leaf : Leaf) (net : Net) (typed : IsTyped tree net) (w : Distributed) (p : ℕ) (t : State) → IsExact net w →
     Sees tree leaf net (view (spread_of w)) (spread_of w).state p t → IsWireTaken tree leaf net w t
 
 -- a net in which no rank can fire and no message is in flight is quiet
 abbrev pub IdleMeansQuiet : Type 0
 IdleMeansQuiet =
-    (tree : Tree) (leaf : Leaf) (net : Net) (items : List (List ℤ)) (at : ℕ → Wired) (n : ℕ) →
-    IsWiredRun tree leaf net items at n → IsIdle tree leaf net (at n) → IsQuiet tree leaf net (spread_of (at n))
+    (tree : Tree) (leaf : Leaf) (net : Net) (items : List (List ℤ)) (at : ℕ → Distributed) (n : ℕ) →
+    IsDistributedRun tree leaf net items at n → IsIdle tree leaf net (at n) → IsQuiet tree leaf net (spread_of (at n))
 
 -- so a linked net with its messages means its items
-abbrev pub EveryLinkedWiredRunMeansItsItems : Type 0
-EveryLinkedWiredRunMeansItsItems =
-    (units : Units) (counts : List ℕ) (cap : ℕ) (items : List (List ℤ)) (at : ℕ → Wired) (n : ℕ) → IsLinkable units counts cap →
-    HaveInWords units.tree items → IsWiredRun units.tree units.leaf (net_of units counts cap) items at n →
+abbrev pub EveryLinkedDistributedRunMeansItsItems : Type 0
+EveryLinkedDistributedRunMeansItsItems =
+    (units : Units) (counts : List ℕ) (cap : ℕ) (items : List (List ℤ)) (at : ℕ → Distributed) (n : ℕ) → IsLinkable units counts cap →
+    HaveInWords units.tree items → IsDistributedRun units.tree units.leaf (net_of units counts cap) items at n →
     Means units.tree units.leaf (net_of units counts cap) (firings units.tree counts) items (spread_of (at n))

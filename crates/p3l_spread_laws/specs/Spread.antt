@@ -21,7 +21,7 @@ pub record IsSound (net : Net) (d : Spread) : Type 0 where
   pub seen : (c : ℕ) → d.seen c ≤ length (d.state.tokens c)
   pub credit : (c : ℕ) → d.credit c + length (d.state.tokens c) ≤ (chan_at net c).cap
 
--- what the ranks know of the channels
+-- the ranks' view of the channels
 abbrev pub view : Spread → Eyes
 view d = record { fronts = λ c. nat_lt 0 (d.seen c); rooms = λ c. nat_lt 0 (d.credit c) }
 

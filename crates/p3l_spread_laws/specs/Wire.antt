@@ -6,13 +6,13 @@ use Rattle.p3l_skel.specs.declared.tree.Tree.{Tree}
 use Rattle.p3l_firing.specs.declared.net.Net.{Net}
 use Rattle.p3l_firing.specs.declared.token.Token.{Token}
 use Rattle.p3l_firing.specs.Nodes.{Leaf}
-use Rattle.p3l_firing.specs.State.{Own, State, chan_at, first_state}
+use Rattle.p3l_firing.specs.State.{LocalState, State, chan_at, first_state}
 use Rattle.p3l_firing.specs.Ways.{Sees}
 use Rattle.p3l_spread_laws.specs.Spread.{Spread, view}
 
-pub record Wired : Type 0 where
+pub record Distributed : Type 0 where
   -- each process's local state, the items not yet sent, the number of items sent, the outcomes emitted, and the number of firings
-  pub own : ℕ → Own
+  pub own : ℕ → LocalState
   pub unsent : List (List ℤ)
   pub sent : ℕ
   pub emitted : List Outcome
@@ -25,7 +25,7 @@ pub record Wired : Type 0 where
   pub back : ℕ → ℕ
 
 -- the spread net without its messages
-abbrev pub spread_of : Wired → Spread
+abbrev pub spread_of : Distributed → Spread
 spread_of w =
     record {
       state = record {
@@ -41,11 +41,11 @@ spread_of w =
     }
 
 -- each place of a channel is accounted for once: as credit, by a token, or as credit in flight
-abbrev pub IsExact : Net → Wired → Type 0
+abbrev pub IsExact : Net → Distributed → Type 0
 IsExact net w = (c : ℕ) → w.credit c + (length (w.ring c) + (length (w.flight c) + w.back c)) ≡ (chan_at net c).cap
 
 -- a firing takes the first tokens from the ring of channel c, whose room goes back as credit, and sends others, which it spends credit for
-pub record Passes (w x : Wired) (c : ℕ) : Type 0 where
+pub record Passes (w x : Distributed) (c : ℕ) : Type 0 where
   pub taken : List Token
   pub given : List Token
   pub ring : w.ring c ≡ taken ++ x.ring c
@@ -54,14 +54,14 @@ pub record Passes (w x : Wired) (c : ℕ) : Type 0 where
   pub back : x.back c ≡ w.back c + length taken
 
 -- a process fires, in a way that is open by its rank's rings and credit
-pub record Fires (tree : Tree) (leaf : Leaf) (net : Net) (w x : Wired) : Type 0 where
+pub record Fires (tree : Tree) (leaf : Leaf) (net : Net) (w x : Distributed) : Type 0 where
   pub by : ℕ
   pub way : Sees tree leaf net (view (spread_of w)) (spread_of w).state by (spread_of x).state
   pub passes : (c : ℕ) → Passes w x c
   pub count : x.fired ≡ w.fired + 1
 
 -- tokens of channel c arrive, in their order, and credit
-pub record Comes (w x : Wired) (c : ℕ) : Type 0 where
+pub record Comes (w x : Distributed) (c : ℕ) : Type 0 where
   pub came : List Token
   pub told : ℕ
   pub flight : w.flight c ≡ came ++ x.flight c
@@ -70,7 +70,7 @@ pub record Comes (w x : Wired) (c : ℕ) : Type 0 where
   pub back : x.back c + told ≡ w.back c
 
 -- messages arrive, and nothing else changes
-pub record Delivers (w x : Wired) : Type 0 where
+pub record Delivers (w x : Distributed) : Type 0 where
   pub own : x.own ≡ w.own
   pub unsent : x.unsent ≡ w.unsent
   pub sent : x.sent ≡ w.sent
@@ -79,14 +79,14 @@ pub record Delivers (w x : Wired) : Type 0 where
   pub comes : (c : ℕ) → Comes w x c
 
 -- n steps from a beginning on: firings, and messages that arrive
-pub record IsWiredRun (tree : Tree) (leaf : Leaf) (net : Net) (items : List (List ℤ)) (at : ℕ → Wired) (n : ℕ) : Type 0 where
+pub record IsDistributedRun (tree : Tree) (leaf : Leaf) (net : Net) (items : List (List ℤ)) (at : ℕ → Distributed) (n : ℕ) : Type 0 where
   pub state : (spread_of (at 0)).state ≡ first_state net items
   pub fired : (at 0).fired ≡ 0
   pub exact : IsExact net (at 0)
   pub steps : (i : ℕ) → i < n → Fires tree leaf net (at i) (at (suc i)) ⊎ Delivers (at i) (at (suc i))
 
 -- no rank can fire, and no message is in flight
-pub record IsIdle (tree : Tree) (leaf : Leaf) (net : Net) (w : Wired) : Type 0 where
+pub record IsIdle (tree : Tree) (leaf : Leaf) (net : Net) (w : Distributed) : Type 0 where
   pub none : (p : ℕ) (t : State) → Sees tree leaf net (view (spread_of w)) (spread_of w).state p t → ⊥
   pub flight : (c : ℕ) → w.flight c ≡ []
   pub back : (c : ℕ) → w.back c ≡ 0

@@ -1,24 +1,24 @@
 -- Lines at hand, before pieces are taken.
 use Rattle.std.proofs.Common.{◌≡◌, ◌≢◌, ℕ, ◌+◌, ◌<◌, ◌≤◌, true, false, List, [], ◌∷◌, ◌++◌, length, Option, Result, Ok, Err, refl, ap, sym, ◌∙◌, inl, arith, append_assoc, append-nil, length-append}
 use Rattle.p3l_base.specs.declared.NoMemory.{NoMemory}
-use Rattle.p3l_stream.specs.declared.line.Line.{Line}
-use Rattle.p3l_stream.specs.declared.line.Line.TheVariants as line
-use Rattle.p3l_stream.specs.declared.next.Next.{Next}
-use Rattle.p3l_stream.specs.declared.next.Next.TheVariants as next
+use Rattle.p3l_io.specs.Change.{Change, Observation, change}
+use Rattle.p3l_stream.specs.declared.line.LineContent.{LineContent}
+use Rattle.p3l_stream.specs.declared.line.LineContent.TheVariants as line
+use Rattle.p3l_stream.specs.declared.items.Ending.TheVariants as ending
 use Rattle.p3l_stream.specs.Answers.{AnswerOf, Answers, FindsLine, RunsOut, answer_for}
 use Rattle.p3l_stream.specs.Ended.{AreBlank, HasLine, IsLine, ended, held_by}
 use Rattle.p3l_stream.specs.Lines.{is_feed}
 use Rattle.p3l_stream.specs.Passing.{PassedBlanks, PassesFilled}
-use Rattle.p3l_stream.specs.Seen.{Seen}
+use Rattle.p3l_stream.specs.Seen.{Answer, Seen}
 use Rattle.p3l_stream.proofs.Blanks.{blank-append, bytes-after}
 use Rattle.p3l_stream.proofs.Feeds.{fewer_after, front_of_line, place, place-line}
 use Rattle.p3l_stream.proofs.Reading.{answers_line, passes_only, takes_none, takes_passing}
 
 -- a line with words is at hand
-pub finds_at_hand : (old new : Seen) (rest : Option (List ℕ)) (holds : Line) (answer : Next) → old.taken ≤ old.limit → (old.at_end ≡ true → old.taken < old.limit) → PassesFilled old new holds → answer ≡ answer_for holds new.passed → Answers old new rest rest (Ok answer)
+pub finds_at_hand : (old new : Seen) (rest : Observation (List ℕ)) (holds : LineContent) (answer : Answer) → old.taken ≤ old.limit → (old.at_end ≡ true → old.taken < old.limit) → PassesFilled old new holds → answer ≡ answer_for holds new.passed → Answers old new (change rest rest) (Ok answer)
 finds_at_hand old new rest holds answer within below passed is = record {
   got = [];
-  takes = takes_passing old old new rest rest [] (takes_none old rest within below) (passes_only old new _ _ passed.after);
+  takes = takes_passing old old new (change rest rest) [] (takes_none old rest within below) (passes_only old new _ _ passed.after);
   answer = answers_line old new _ holds answer passed.has_words (record {
     blanks = passed.blanks;
     first = passed.first;
@@ -33,7 +33,7 @@ finds_at_hand old new rest holds answer within below passed is = record {
 }
 
 -- lines without words come before a line that is found
-finds_after : (old mid new : Seen) (got : List ℕ) (holds : Line) → PassedBlanks old mid → FindsLine mid new (mid.held ++ got) holds → FindsLine old new (old.held ++ got) holds
+finds_after : (old mid new : Seen) (got : List ℕ) (holds : LineContent) → PassedBlanks old mid → FindsLine mid new (mid.held ++ got) holds → FindsLine old new (old.held ++ got) holds
 finds_after old mid new got holds passed found =
     let words_are : mid.words ≡ old.words = ap (λ (s : Seen). s.words) passed.after in
     let before : mid.passed ≡ old.passed + length passed.blanks = ap (λ (s : Seen). s.passed) passed.after in
@@ -61,9 +61,9 @@ runs_after old mid now count got part passed out =
       counted = omega (arith, length-append passed.blanks out.blanks, out.counted);
     }
 
-answer_after : (old mid new : Seen) (got : List ℕ) (result : Result Next NoMemory) → PassedBlanks old mid → AnswerOf mid new (mid.held ++ got) result → AnswerOf old new (old.held ++ got) result
-answer_after old mid new got (Ok (next.Item words)) passed found = finds_after old mid new got _ passed found
-answer_after old mid new got (Ok next.End) passed found = (
+answer_after : (old mid new : Seen) (got : List ℕ) (result : Result Answer NoMemory) → PassedBlanks old mid → AnswerOf mid new (mid.held ++ got) result → AnswerOf old new (old.held ++ got) result
+answer_after old mid new got (Ok (Ok words)) passed found = finds_after old mid new got _ passed found
+answer_after old mid new got (Ok (Err ending.End)) passed found = (
   (
     found.0.0,
     runs_after old mid new.passed _ got found.0.0 passed found.0.1,
@@ -72,16 +72,16 @@ answer_after old mid new got (Ok next.End) passed found = (
   ),
   found.1,
 )
-answer_after old mid new got (Ok (next.BadWord number)) passed found = (finds_after old mid new got _ passed found.0, found.1)
-answer_after old mid new got (Ok (next.WrongCount number had)) passed found = (finds_after old mid new got _ passed found.0, found.1)
-answer_after old mid new got (Ok (next.OutOfRange number)) passed found = (finds_after old mid new got _ passed found.0, found.1)
-answer_after old mid new got (Ok next.ReadFault) passed found = ((found.0.0, runs_after old mid new.passed 0 got found.0.0 passed found.0.1, found.0.2), found.1, found.2)
-answer_after old mid new got (Ok next.TooLong) passed found = ((found.0.0, runs_after old mid new.passed 0 got found.0.0 passed found.0.1, found.0.2), found.1)
+answer_after old mid new got (Ok (Err (ending.BadWord number))) passed found = (finds_after old mid new got _ passed found.0, found.1)
+answer_after old mid new got (Ok (Err (ending.WrongCount number had))) passed found = (finds_after old mid new got _ passed found.0, found.1)
+answer_after old mid new got (Ok (Err (ending.OutOfRange number))) passed found = (finds_after old mid new got _ passed found.0, found.1)
+answer_after old mid new got (Ok (Err ending.ReadFault)) passed found = ((found.0.0, runs_after old mid new.passed 0 got found.0.0 passed found.0.1, found.0.2), found.1, found.2)
+answer_after old mid new got (Ok (Err ending.TooLong)) passed found = ((found.0.0, runs_after old mid new.passed 0 got found.0.0 passed found.0.1, found.0.2), found.1)
 answer_after old mid new got (Err e) passed found = tt
 
 -- an answer after lines without words at hand
-pub answers_after : (old mid new : Seen) (rest left : Option (List ℕ)) (result : Result Next NoMemory) → PassedBlanks old mid → Answers mid new rest left result → Answers old new rest left result
-answers_after old mid new rest left result passed is =
+pub answers_after : (old mid new : Seen) (source : Change (List ℕ)) (result : Result Answer NoMemory) → PassedBlanks old mid → Answers mid new source result → Answers old new source result
+answers_after old mid new source result passed is =
     let taken_is : mid.taken ≡ old.taken = ap (λ (s : Seen). s.taken) passed.after in
     let end_is : mid.at_end ≡ old.at_end = ap (λ (s : Seen). s.at_end) passed.after in
     record {

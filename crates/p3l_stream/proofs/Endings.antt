@@ -1,4 +1,4 @@
--- How many words each item has.
+-- The count of words of each item.
 use Rattle.std.proofs.Common.{◌≡◌, ℕ, zero, suc, arith, ◌+◌, ℤ, Bool, true, false, List, [], ◌∷◌, All, length, nat_eq, refl, if◌then◌else◌}
 use Rattle.std.proofs.lemmas.Map.Views.{exact_unsigned_eq}
 use Rattle.std.specs.declared.result.Result.{Result}
@@ -7,15 +7,15 @@ use Rattle.p3l_stream.specs.declared.word.WordFault.{WordFault}
 use Rattle.p3l_stream.specs.declared.word.WordFault.TheVariants as fault
 use Rattle.p3l_stream.specs.Words.{numbers_of, words_of}
 use Rattle.p3l_stream.specs.declared.taken.Cutoff.{Cutoff}
-use Rattle.p3l_stream.specs.declared.line.Line.{Line}
-use Rattle.p3l_stream.specs.declared.line.Line.TheVariants as line
+use Rattle.p3l_stream.specs.declared.line.LineContent.{LineContent}
+use Rattle.p3l_stream.specs.declared.line.LineContent.TheVariants as line
 use Rattle.p3l_stream.specs.declared.items.Ending.{Ending}
 use Rattle.p3l_stream.specs.declared.items.Items.{Items}
 use Rattle.p3l_stream.specs.Lines.{line_of, lines_of, line_from}
 use Rattle.p3l_stream.specs.Items.{put_line, items_of_lines, items_taken, closing}
 
 -- a line that is an item has as many numbers as an item has words
-abbrev pub IsWide : ℕ → Line → Type 0
+abbrev pub IsWide : ℕ → LineContent → Type 0
 IsWide width line.Blank = Unit {0}
 IsWide width (line.Item words) = length words ≡ width
 IsWide width line.BadWord = Unit {0}
@@ -26,7 +26,7 @@ counted_wide : (width : ℕ) (numbers : List ℤ) (b : Bool) → nat_eq (length 
 counted_wide width numbers true h = exact_unsigned_eq _ _ h
 counted_wide width numbers false h = tt
 
--- what a line holds is as wide
+-- the content of a line is as wide
 pub line_wide : (width : ℕ) (numbers : Result (List ℤ) WordFault) → IsWide width (line_from width numbers)
 line_wide width (Err fault.Form) = tt
 line_wide width (Err fault.Range) = tt
@@ -40,7 +40,7 @@ all_cons : (width : ℕ) (first : List ℤ) (rest : List (List ℤ)) → length 
 all_cons width first rest w h zero d below = w
 all_cons width first rest w h (suc k) d below = h k d (omega arith)
 
-put_wide : (width : ℕ) (l : Line) (number : ℕ) (rest : Items) → IsWide width l → All (λ words. length words ≡ width) rest.items → All (λ words. length words ≡ width) (put_line l number rest).items
+put_wide : (width : ℕ) (l : LineContent) (number : ℕ) (rest : Items) → IsWide width l → All (λ words. length words ≡ width) rest.items → All (λ words. length words ≡ width) (put_line l number rest).items
 put_wide width line.Blank number rest w h = h
 put_wide width (line.Item words) number rest w h = all_cons width words rest.items w h
 put_wide width line.BadWord number rest w h = all_none width

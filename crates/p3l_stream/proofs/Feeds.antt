@@ -1,4 +1,4 @@
--- Where line feeds occur among bytes.
+-- Places of line feeds among bytes.
 use Rattle.std.proofs.Common.{◌≡◌, ℕ, zero, suc, ◌+◌, ◌-◌, ◌<◌, ◌≤◌, Bool, true, false, not, cond, ltb, List, [], ◌∷◌, ◌++◌, length, take, drop, Option, Some, None, position, refl, ap, sym, ◌∙◌, arith, length-append, length-take, length-drop, take-append-drop}
 use Rattle.std.specs.List.{position_or_len}
 use Rattle.std.proofs.lemmas.Bool.{eqb-true}
@@ -43,7 +43,7 @@ place-after (byte ∷ bytes) more all =
     let rest : place (bytes ++ more) ≡ length bytes + place more = place-after bytes more front.1 in
     ap (λ b. cond (not b) (1 + place (bytes ++ more)) 0) front.0 ∙ omega arith
 
--- what comes before the first line feed is a line
+-- the bytes before the first line feed are a line
 pub place-take : (bytes : List ℕ) (n : ℕ) → n ≤ place bytes → n ≤ length bytes → place (take n bytes) ≡ n
 place-take bytes zero low high = refl
 place-take [] (suc n) low high = absurd (omega arith)

@@ -3,13 +3,12 @@ use Rattle.std.proofs.Common.{◌≡◌, ◌≢◌, ℕ, ℤ, ◌+◌, Bool, tru
 use Rattle.std.specs.List.{AllByRecursion}
 use Rattle.std.specs.Str.Lines.{strip_carriage_return}
 use Rattle.p3l_base.specs.declared.NoMemory.{NoMemory}
+use Rattle.p3l_io.specs.Change.{Change}
 use Rattle.p3l_stream.specs.declared.items.Ending.{Ending}
 use Rattle.p3l_stream.specs.declared.items.Ending.TheVariants as ending
 use Rattle.p3l_stream.specs.declared.items.Items.{Items}
-use Rattle.p3l_stream.specs.declared.line.Line.{Line}
-use Rattle.p3l_stream.specs.declared.line.Line.TheVariants as line
-use Rattle.p3l_stream.specs.declared.next.Next.{Next}
-use Rattle.p3l_stream.specs.declared.next.Next.TheVariants as next
+use Rattle.p3l_stream.specs.declared.line.LineContent.{LineContent}
+use Rattle.p3l_stream.specs.declared.line.LineContent.TheVariants as line
 use Rattle.p3l_stream.specs.declared.taken.Cutoff.{Cutoff}
 use Rattle.p3l_stream.specs.declared.taken.Cutoff.TheVariants as stop
 use Rattle.p3l_stream.specs.Answers.{Answers, FindsLine, FindsNone, IsBefore, RunsOut}
@@ -17,7 +16,7 @@ use Rattle.p3l_stream.specs.Ended.{AreBlank, ended, held_by}
 use Rattle.p3l_stream.specs.Given.{AreFirst, AreRefused, Closes, GoesOn, HasGiven, TakesOn, before_items, ended_by, items_in}
 use Rattle.p3l_stream.specs.Items.{closing, items_taken, put_line}
 use Rattle.p3l_stream.specs.Lines.{last_line}
-use Rattle.p3l_stream.specs.Seen.{Seen, closed_by, started}
+use Rattle.p3l_stream.specs.Seen.{Answer, Seen, closed_by, started}
 use Rattle.p3l_stream.specs.Words.{numbers_of, words_of}
 use Rattle.p3l_stream.proofs.Endings.{IsWide, line_wide}
 use Rattle.p3l_stream.proofs.LinesAfter.{items_after, items_dropped, items_ended, items_from, items_last, items_none}
@@ -40,9 +39,9 @@ wide_more : (width : ℕ) (items : List (List ℤ)) (words : List ℤ) → AllBy
 wide_more width [] words all one = (one, tt)
 wide_more width (first ∷ items) words all one = (all.0, wide_more width items words all.1 one)
 
--- what an answer says of the items after those answered before
-module _ (width : ℕ) (old new : Seen) (rest left : Option (List ℕ)) (bytes : List ℕ) (items : List (List ℤ)) (result : Result Next NoMemory) (was : HasGiven width old bytes items) (is_open : old.closed ≡ None)
-    (answers : Answers old new rest left result) where
+-- an answer tells of the items after those answered before
+module _ (width : ℕ) (old new : Seen) (source : Change (List ℕ)) (bytes : List ℕ) (items : List (List ℤ)) (result : Result Answer NoMemory) (was : HasGiven width old bytes items) (is_open : old.closed ≡ None)
+    (answers : Answers old new source result) where
   abbrev got : List ℕ
   got = answers.got
 
@@ -66,7 +65,7 @@ module _ (width : ℕ) (old new : Seen) (rest left : Option (List ℕ)) (bytes :
   first_of how more on = (items_from width (old.passed + 1) (closing how) how ((old.held ++ got) ++ more), on_from how more (goes_on how more on))
 
   -- a line that was found, before those after it
-  module _ (holds : Line) (filled : holds ≢ line.Blank) (found : FindsLine old new (old.held ++ got) holds) where
+  module _ (holds : LineContent) (filled : holds ≢ line.Blank) (found : FindsLine old new (old.held ++ got) holds) where
     held_it : held_by width found.first ≡ holds
     held_it = ap (λ (w : ℕ). held_by w found.first) (sym was.width_is) ∙ found.holds_it
 
@@ -100,7 +99,7 @@ module _ (width : ℕ) (old new : Seen) (rest left : Option (List ℕ)) (bytes :
         ∙ ap (before_items items) (stands_before how more on found.stands)
 
   -- a line that is refused
-  on_refused : (holds : Line) (close : Ending) → holds ≢ line.Blank → FindsLine old new (old.held ++ got) holds → ((k : Items) → put_line holds new.passed k ≡ ended_by [] close) → AreRefused width new.at_end (bytes ++ got) items close
+  on_refused : (holds : LineContent) (close : Ending) → holds ≢ line.Blank → FindsLine old new (old.held ++ got) holds → ((k : Items) → put_line holds new.passed k ≡ ended_by [] close) → AreRefused width new.at_end (bytes ++ got) items close
   on_refused holds close filled found puts how more on =
       on_line holds filled found how more on ∙ ap (before_items items) (puts _) ∙ ap (λ (i : List (List ℤ)). ended_by i close) (append-nil items)
 
@@ -129,7 +128,7 @@ module _ (width : ℕ) (old new : Seen) (rest left : Option (List ℕ)) (bytes :
   shifted : (words : List ℤ) (later : Items) → before_items items (record later { items = words ∷ later.items }) ≡ before_items (items ++ words ∷ []) later
   shifted words later = ap (λ (i : List (List ℤ)). ended_by i later.ending) (sym (append_assoc items (words ∷ []) later.items))
 
-  -- what was given after the answer
+  -- the stream has given these items after the answer
   with_parts : (more : List (List ℤ)) (close : Option (Result Ending NoMemory)) → AllByRecursion (λ (w : List ℤ). length w ≡ width) more → AreFirst width new.at_end (bytes ++ got) more
       → new.closed ≡ close → Closes width new (bytes ++ got) more close → HasGiven width new (bytes ++ got) more
   with_parts more close wide first closed closes = record {
@@ -156,34 +155,34 @@ module _ (width : ℕ) (old new : Seen) (rest left : Option (List ℕ)) (bytes :
       subst (HasGiven width new (bytes ++ got)) (sym (append-nil items)) (with_parts items (Some close) was.wide first_of closed closes)
 
 -- after each answer
-pub given_answered : (width : ℕ) (old new : Seen) (rest left : Option (List ℕ)) (bytes : List ℕ) (items : List (List ℤ)) (result : Result Next NoMemory) → HasGiven width old bytes items → old.closed ≡ None →
-    new.closed ≡ closed_by result → (answers : Answers old new rest left result) → HasGiven width new (bytes ++ answers.got) (items ++ items_in result)
-given_answered width old new rest left bytes items (Ok (next.Item words)) was is_open closed a = item_given width old new rest left bytes items _ was is_open a words a.answer closed
-given_answered width old new rest left bytes items (Ok next.End) was is_open closed a =
-    ended_given width old new rest left bytes items _ was is_open a (Ok ending.End) closed
-    (a.answer.1, on_end width old new rest left bytes items _ was is_open a a.answer.0.0 new.passed _ a.answer.0.1 a.answer.0.2 a.answer.1)
-given_answered width old new rest left bytes items (Ok (next.BadWord number)) was is_open closed a =
-    ended_given width old new rest left bytes items _ was is_open a (Ok (ending.BadWord number)) closed
-    (on_refused width old new rest left bytes items _ was is_open a line.BadWord (ending.BadWord number) (λ e. cc) a.answer.0 (λ k. ap (λ (n : ℕ). ended_by [] (ending.BadWord n)) (sym a.answer.1)))
-given_answered width old new rest left bytes items (Ok (next.WrongCount number had)) was is_open closed a =
-    ended_given width old new rest left bytes items _ was is_open a (Ok (ending.WrongCount number had)) closed
-    (on_refused width old new rest left bytes items _ was is_open a (line.WrongCount had) (ending.WrongCount number had) (λ e. cc) a.answer.0 (λ k. ap (λ (n : ℕ). ended_by [] (ending.WrongCount n had)) (sym a.answer.1)))
-given_answered width old new rest left bytes items (Ok (next.OutOfRange number)) was is_open closed a =
-    ended_given width old new rest left bytes items _ was is_open a (Ok (ending.OutOfRange number)) closed
-    (on_refused width old new rest left bytes items _ was is_open a line.OutOfRange (ending.OutOfRange number) (λ e. cc) a.answer.0 (λ k. ap (λ (n : ℕ). ended_by [] (ending.OutOfRange n)) (sym a.answer.1)))
-given_answered width old new rest left bytes items (Ok next.ReadFault) was is_open closed a =
-    ended_given width old new rest left bytes items _ was is_open a (Ok ending.ReadFault) closed
-    (a.answer.1, a.answer.2, on_none width old new rest left bytes items _ was is_open a stop.Fault (λ part. refl) a.answer.1 a.answer.0)
-given_answered width old new rest left bytes items (Ok next.TooLong) was is_open closed a =
+pub given_answered : (width : ℕ) (old new : Seen) (source : Change (List ℕ)) (bytes : List ℕ) (items : List (List ℤ)) (result : Result Answer NoMemory) → HasGiven width old bytes items → old.closed ≡ None →
+    new.closed ≡ closed_by result → (answers : Answers old new source result) → HasGiven width new (bytes ++ answers.got) (items ++ items_in result)
+given_answered width old new source bytes items (Ok (Ok words)) was is_open closed a = item_given width old new source bytes items _ was is_open a words a.answer closed
+given_answered width old new source bytes items (Ok (Err ending.End)) was is_open closed a =
+    ended_given width old new source bytes items _ was is_open a (Ok ending.End) closed
+    (a.answer.1, on_end width old new source bytes items _ was is_open a a.answer.0.0 new.passed _ a.answer.0.1 a.answer.0.2 a.answer.1)
+given_answered width old new source bytes items (Ok (Err (ending.BadWord number))) was is_open closed a =
+    ended_given width old new source bytes items _ was is_open a (Ok (ending.BadWord number)) closed
+    (on_refused width old new source bytes items _ was is_open a line.BadWord (ending.BadWord number) (λ e. cc) a.answer.0 (λ k. ap (λ (n : ℕ). ended_by [] (ending.BadWord n)) (sym a.answer.1)))
+given_answered width old new source bytes items (Ok (Err (ending.WrongCount number had))) was is_open closed a =
+    ended_given width old new source bytes items _ was is_open a (Ok (ending.WrongCount number had)) closed
+    (on_refused width old new source bytes items _ was is_open a (line.WrongCount had) (ending.WrongCount number had) (λ e. cc) a.answer.0 (λ k. ap (λ (n : ℕ). ended_by [] (ending.WrongCount n had)) (sym a.answer.1)))
+given_answered width old new source bytes items (Ok (Err (ending.OutOfRange number))) was is_open closed a =
+    ended_given width old new source bytes items _ was is_open a (Ok (ending.OutOfRange number)) closed
+    (on_refused width old new source bytes items _ was is_open a line.OutOfRange (ending.OutOfRange number) (λ e. cc) a.answer.0 (λ k. ap (λ (n : ℕ). ended_by [] (ending.OutOfRange n)) (sym a.answer.1)))
+given_answered width old new source bytes items (Ok (Err ending.ReadFault)) was is_open closed a =
+    ended_given width old new source bytes items _ was is_open a (Ok ending.ReadFault) closed
+    (a.answer.1, a.answer.2, on_none width old new source bytes items _ was is_open a stop.Fault (λ part. refl) a.answer.1 a.answer.0)
+given_answered width old new source bytes items (Ok (Err ending.TooLong)) was is_open closed a =
     let not_ended : new.at_end ≡ false = by new.at_end refl in
-    ended_given width old new rest left bytes items _ was is_open a (Ok ending.TooLong) closed
-    (not_ended, a.answer.1, on_none width old new rest left bytes items _ was is_open a stop.Limit (λ part. refl) not_ended a.answer.0)
+    ended_given width old new source bytes items _ was is_open a (Ok ending.TooLong) closed
+    (not_ended, a.answer.1, on_none width old new source bytes items _ was is_open a stop.Limit (λ part. refl) not_ended a.answer.0)
   where
     by : (b : Bool) → new.at_end ≡ b → new.at_end ≡ false
     by false e = e
     by true e = absurd (let below = a.takes.below e in let at = a.answer.1 in omega arith)
-given_answered width old new rest left bytes items (Err want) was is_open closed a = ended_given width old new rest left bytes items _ was is_open a (Err want) closed tt
+given_answered width old new source bytes items (Err want) was is_open closed a = ended_given width old new source bytes items _ was is_open a (Err want) closed tt
 
 -- an item has the words that it should
-pub item_wide : (old new : Seen) (rest left : Option (List ℕ)) (words : List ℤ) → Answers old new rest left (Ok (next.Item words)) → length words ≡ old.words
-item_wide old new rest left words a = subst (IsWide old.words) a.answer.holds_it (line_wide old.words (numbers_of (words_of (strip_carriage_return a.answer.first))))
+pub item_wide : (old new : Seen) (source : Change (List ℕ)) (words : List ℤ) → Answers old new source (Ok (Ok words)) → length words ≡ old.words
+item_wide old new source words a = subst (IsWide old.words) a.answer.holds_it (line_wide old.words (numbers_of (words_of (strip_carriage_return a.answer.first))))

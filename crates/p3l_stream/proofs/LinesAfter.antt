@@ -2,8 +2,8 @@
 use Rattle.std.proofs.Common.{◌≡◌, ◌≢◌, ℕ, suc, ◌+◌, List, [], ◌∷◌, ◌++◌, length, take, drop, Some, position, refl, ap, sym, ◌∙◌, arith, append_assoc}
 use Rattle.std.specs.Str.Lines.{strip_carriage_return}
 use Rattle.p3l_stream.specs.declared.items.Ending.{Ending}
-use Rattle.p3l_stream.specs.declared.line.Line.{Line}
-use Rattle.p3l_stream.specs.declared.line.Line.TheVariants as line
+use Rattle.p3l_stream.specs.declared.line.LineContent.{LineContent}
+use Rattle.p3l_stream.specs.declared.line.LineContent.TheVariants as line
 use Rattle.p3l_stream.specs.declared.taken.Cutoff.{Cutoff}
 use Rattle.p3l_stream.specs.declared.taken.Cutoff.TheVariants as stop
 use Rattle.p3l_stream.specs.declared.items.Items.{Items}
@@ -43,10 +43,10 @@ abbrev pub items_from : ℕ → ℕ → Ending → Cutoff → List ℕ → Items
 items_from width number close how bytes = items_of_lines width number close (lines_of how bytes)
 
 -- an ended line, and what it holds
-pub items_ended : (width number : ℕ) (close : Ending) (how : Cutoff) (first after : List ℕ) (holds : Line) → IsLine first → held_by width first ≡ holds →
+pub items_ended : (width number : ℕ) (close : Ending) (how : Cutoff) (first after : List ℕ) (holds : LineContent) → IsLine first → held_by width first ≡ holds →
     items_from width number close how (first ++ 10 ∷ after) ≡ put_line holds number (items_from width (number + 1) close how after)
 items_ended width number close how first after holds is_line is =
-    ap (items_of_lines width number close) (lines_of-ended how first after is_line) ∙ ap (λ (l : Line). put_line l number (items_from width (number + 1) close how after)) is
+    ap (items_of_lines width number close) (lines_of-ended how first after is_line) ∙ ap (λ (l : LineContent). put_line l number (items_from width (number + 1) close how after)) is
 
 -- lines without words give no item
 pub items_after : (width number : ℕ) (close : Ending) (how : Cutoff) (blanks : List (List ℕ)) (rest : List ℕ) → AreBlank width blanks →
@@ -65,12 +65,12 @@ nothing stop.Fault = refl
 nothing stop.Limit = refl
 
 -- a line that the end of the input ends, and what it holds
-pub items_last : (width number : ℕ) (close : Ending) (first : List ℕ) (holds : Line) → IsLine first → held_by width first ≡ holds → holds ≢ line.Blank →
+pub items_last : (width number : ℕ) (close : Ending) (first : List ℕ) (holds : LineContent) → IsLine first → held_by width first ≡ holds → holds ≢ line.Blank →
     items_from width number close stop.End first ≡ put_line holds number (items_from width (number + 1) close stop.End [])
 items_last width number close [] holds is_line is filled = absurd (filled (sym is))
 items_last width number close (byte ∷ first) holds is_line is filled =
     ap (items_of_lines width number close) (lines_of-last stop.End (byte ∷ first) (sym is_line))
-    ∙ ap (λ (l : Line). put_line l number (items_of_lines width (number + 1) close [])) is
+    ∙ ap (λ (l : LineContent). put_line l number (items_of_lines width (number + 1) close [])) is
 
 -- the same of a line without words, or of no byte
 pub items_none : (width number : ℕ) (close : Ending) (part : List ℕ) → IsLine part → held_by width part ≡ line.Blank →
@@ -78,7 +78,7 @@ pub items_none : (width number : ℕ) (close : Ending) (part : List ℕ) → IsL
 items_none width number close [] is_line is = refl
 items_none width number close (byte ∷ part) is_line is =
     ap (items_of_lines width number close) (lines_of-last stop.End (byte ∷ part) (sym is_line))
-    ∙ ap (λ (l : Line). put_line l number (items_of_lines width (number + 1) close [])) is
+    ∙ ap (λ (l : LineContent). put_line l number (items_of_lines width (number + 1) close [])) is
 
 -- a part of a line is dropped where the input isn't at its end
 pub items_dropped : (width number : ℕ) (close : Ending) (how : Cutoff) (part : List ℕ) → IsLine part → last_line how part ≡ [] →

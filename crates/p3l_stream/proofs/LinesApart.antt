@@ -1,4 +1,4 @@
--- How the lines of a text follow one another.
+-- The order of the lines of a text.
 use Rattle.std.proofs.Common.{◌≡◌, ℕ, suc, ◌+◌, ◌<◌, true, false, not, cond, List, [], ◌∷◌, length, take, drop, Some, None, position, refl, ap, sym, ◌∙◌, arith}
 use Rattle.std.specs.List.{after_first, onto_first, position_or_len, slice_split}
 use Rattle.std.specs.Str.Lines.{strip_carriage_return}

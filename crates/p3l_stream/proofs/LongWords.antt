@@ -351,7 +351,7 @@ cut_first : (word back : List ℕ) → 0 < length word → drop 1 (word ++ back)
 cut_first [] back some = absurd (omega arith)
 cut_first (byte ∷ word) back some = refl
 
--- what dropping the zeros leaves, with the sign in the place of the last of them
+-- the digits left when the zeros are dropped, with the sign in the place of the last of them
 pub zeros_dropped : (word : List ℕ) (minus : Bool) (count last : ℕ) (held : List ℕ) → HasZeros word minus count → minus ≡ true → held ≡ word ++ last ∷ []
     → 45 ∷ drop 1 (drop count held) ≡ signed minus (drop count (digits_of word)) ++ last ∷ []
 zeros_dropped word minus count last held zeros is held_is =

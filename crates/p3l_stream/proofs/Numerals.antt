@@ -126,7 +126,7 @@ no_feed byte fits = grind (arith, nat_tests)
 pub no_return : (byte : ℕ) → is_numeral_byte byte ≡ true → (byte == 13) ≡ false
 no_return byte fits = grind (arith, nat_tests)
 
--- what writes a number is a numeral
+-- a word that writes a number is a numeral
 pub is_numeral-from_number : (word : List ℕ) (number : ℤ) → number_of word ≡ Ok number → is_numeral word ≡ true
 is_numeral-from_number word number is =
     elim (is_numeral word) as (λ b. cond b (signed_number (starts_with_minus word) (magnitude word)) (Err fault.Form) ≡ Ok number → b ≡ true) [
@@ -166,7 +166,7 @@ byte-of_numeral bytes len number within is k below =
     subst (λ b. is_numeral_byte b ≡ true) (get_or-take len bytes k 0 below)
     (All-get_or (λ b. is_numeral_byte b ≡ true) word k 0 (omega (arith, size)) (all_bytes word number is))
 
--- where a blank or the end comes after a numeral, it is the whole word
+-- a numeral before a blank or the end is the whole word
 pub word_len-numeral : (bytes : List ℕ) (len : ℕ) (number : ℤ) → len ≤ length bytes → number_of (take len bytes) ≡ Ok number → (len < length bytes → is_blank (get_or bytes len 0) ≡ true) → word_len bytes ≡ len
 word_len-numeral bytes len number within is ends =
     position_or_len_is is_blank bytes len 0 within (λ k below. no_blank (get_or bytes k 0) (byte-of_numeral bytes len number within is k below)) ends

@@ -2,8 +2,9 @@
 use Rattle.std.proofs.Common.{◌≡◌, ℕ, ◌+◌, ◌-◌, ◌<◌, ◌≤◌, ℤ, true, false, Bool, ◌||◌, ◌⊎◌, inl, inr, if◌then◌else◌, List, [], ◌∷◌, ◌++◌, length, take, drop, position, Option, Some, None, Result, Ok, Err, refl, ap, sym, subst, ◌∙◌, arith, append_assoc, append-nil, length-append}
 use Rattle.std.specs.Str.Lines.{strip_carriage_return}
 use Rattle.p3l_base.specs.Memory.{IfGiven}
-use Rattle.p3l_stream.specs.declared.line.Line.{Line}
-use Rattle.p3l_stream.specs.declared.line.Line.TheVariants as line
+use Rattle.p3l_io.specs.Change.{Change}
+use Rattle.p3l_stream.specs.declared.line.LineContent.{LineContent}
+use Rattle.p3l_stream.specs.declared.line.LineContent.TheVariants as line
 use Rattle.p3l_stream.specs.declared.taken.Cutoff.TheVariants as stop
 use Rattle.p3l_stream.specs.declared.word.WordFault.{WordFault}
 use Rattle.p3l_stream.specs.Ended.{IsLine, ended, held_by}
@@ -42,7 +43,7 @@ ends_in (b ∷ held) piece (c ∷ first) after is_line e =
     tail b held whole = line_rest (b ∷ []) held whole
 
 -- the line that was ended is the one that was read before
-pub ends_line : (old new : Seen) (part : PartSeen) (held so_far piece : List ℕ) (holds : Line) → EndsLine old new part holds → part.width ≡ old.words → old.held ≡ held ++ piece → StandsFor part held so_far → PassesLine (record old { held = so_far ++ piece }) new holds
+pub ends_line : (old new : Seen) (part : PartSeen) (held so_far piece : List ℕ) (holds : LineContent) → EndsLine old new part holds → part.width ≡ old.words → old.held ≡ held ++ piece → StandsFor part held so_far → PassesLine (record old { held = so_far ++ piece }) new holds
 ends_line old new part held so_far piece holds ends width held_is stands =
     let is : EndsIn held piece ends.first new.held = ends_in held piece ends.first new.held stands.held_is (sym held_is ∙ ends.bytes_are) in
     record {
@@ -58,7 +59,7 @@ ends_line old new part held so_far piece holds ends width held_is stands =
     }
 
 -- lines without words before a line that has some
-filled_after : (old mid new : Seen) (holds : Line) → PassedBlanks old mid → PassesFilled mid new holds → PassesFilled old new holds
+filled_after : (old mid new : Seen) (holds : LineContent) → PassedBlanks old mid → PassesFilled mid new holds → PassesFilled old new holds
 filled_after old mid new holds was is =
     let words_are : mid.words ≡ old.words = same_words old mid _ was.after in
     record {
@@ -96,7 +97,7 @@ ended_length : (lines : List (List ℕ)) → length lines ≤ length (ended line
 ended_length [] = omega arith
 ended_length (bytes ∷ lines) = omega (arith, ended_length lines, length-append bytes (10 ∷ ended lines))
 
--- what is left has the bytes of no line that was passed
+-- the bytes left are of no line that was passed
 fits_after : (part : PartSeen) (old mid new : Seen) → FitsIn part old → old.held ≡ old.held → new.words ≡ old.words → new.taken ≡ old.taken → new.passed + length new.held ≤ old.passed + length old.held → FitsIn (no_part part.width) new
 fits_after part old mid new fits same words taken fewer = record {
   width = fits.width ∙ sym words;
@@ -104,7 +105,7 @@ fits_after part old mid new fits same words taken fewer = record {
   number = omega (arith, fits.number);
 }
 
-fewer_by_line : (old new : Seen) (part : PartSeen) (holds : Line) → EndsLine old new part holds → new.passed + length new.held ≤ old.passed + length old.held
+fewer_by_line : (old new : Seen) (part : PartSeen) (holds : LineContent) → EndsLine old new part holds → new.passed + length new.held ≤ old.passed + length old.held
 fewer_by_line old new part holds ends =
     omega (arith, ap (λ (s : Seen). s.passed) ends.after, ap length ends.bytes_are, length-append ends.first (10 ∷ new.held))
 
@@ -123,13 +124,13 @@ reads_none old new part now held so_far piece is fits held_is stands =
     })
 
 -- the line has words
-pub reads_filled : (old new : Seen) (part now : PartSeen) (held so_far piece : List ℕ) (holds : Line) → MayEndLine old new part now (Some holds) → FitsIn part old → old.held ≡ held ++ piece → StandsFor part held so_far → ¬ (holds ≡ line.Blank) → PassesFilled (record old { held = so_far ++ piece }) new holds
+pub reads_filled : (old new : Seen) (part now : PartSeen) (held so_far piece : List ℕ) (holds : LineContent) → MayEndLine old new part now (Some holds) → FitsIn part old → old.held ≡ held ++ piece → StandsFor part held so_far → ¬ (holds ≡ line.Blank) → PassesFilled (record old { held = so_far ++ piece }) new holds
 reads_filled old new part now held so_far piece holds is fits held_is stands filled =
     let old' : Seen = record old { held = so_far ++ piece } in
     passed_filled old' old' new holds (passed_none old') (ends_line old new part held so_far piece holds is.0 fits.width held_is stands) filled
 
 -- the line has none, and then come others
-pub reads_blank : (old mid new : Seen) (part now : PartSeen) (held so_far piece : List ℕ) (holds : Line) (o : Option Line) → MayEndLine old mid part now (Some holds) → FitsIn part old → old.held ≡ held ++ piece → StandsFor part held so_far → holds ≡ line.Blank → MayPassFilled mid new o
+pub reads_blank : (old mid new : Seen) (part now : PartSeen) (held so_far piece : List ℕ) (holds : LineContent) (o : Option LineContent) → MayEndLine old mid part now (Some holds) → FitsIn part old → old.held ≡ held ++ piece → StandsFor part held so_far → holds ≡ line.Blank → MayPassFilled mid new o
     → MayPassRead (record old { held = so_far ++ piece }) new now o
 reads_blank old mid new part now held so_far piece holds None is fits held_is stands blank passed =
     let old' : Seen = record old { held = so_far ++ piece } in
@@ -154,7 +155,7 @@ last_count [] = refl
 last_count (byte ∷ bytes) = refl
 
 -- the last line
-pub reads_last : (old new : Seen) (part now : PartSeen) (so_far : List ℕ) (holds : Line) → FitsIn part old → StandsFor part old.held so_far → line_after part (numbers_of (words_of (strip_carriage_return old.held))) ≡ holds
+pub reads_last : (old new : Seen) (part now : PartSeen) (so_far : List ℕ) (holds : LineContent) → FitsIn part old → StandsFor part old.held so_far → line_after part (numbers_of (words_of (strip_carriage_return old.held))) ≡ holds
     → new ≡ moved_past old (if part.begun || is_filled old.held then 1 else 0) [] → PassesLast (record old { held = so_far }) new holds
 reads_last old new part now so_far holds fits stands holds_is after = record {
   holds_it =
@@ -170,8 +171,8 @@ reads_last old new part now so_far holds fits stands holds_is after = record {
 }
 
 -- a piece comes after the line so far
-pub takes_so_far : (old new : Seen) (rest left : Option (List ℕ)) (piece held so_far held' : List ℕ) → TakesPiece old new rest left piece held → TakesPiece (record old { held = so_far }) (record new { held = held' }) rest left piece held'
-takes_so_far old new rest left piece held so_far held' took = record {
+pub takes_so_far : (old new : Seen) (source : Change (List ℕ)) (piece held so_far held' : List ℕ) → TakesPiece old new source piece held → TakesPiece (record old { held = so_far }) (record new { held = held' }) source piece held'
+takes_so_far old new source piece held so_far held' took = record {
   short = took.short;
   after = ap (λ (s : Seen). record s { held = held' }) took.after;
   within = took.within;
@@ -181,7 +182,7 @@ takes_so_far old new rest left piece held so_far held' took = record {
 }
 
 -- the first line is ended here, and its other words were read
-pub ended_here : (old new : Seen) (part now : PartSeen) (end : ℕ) (bytes : List ℕ) (holds : Line) → Some end ≡ position is_feed old.held
+pub ended_here : (old new : Seen) (part now : PartSeen) (end : ℕ) (bytes : List ℕ) (holds : LineContent) → Some end ≡ position is_feed old.held
     → ((others : Result (List ℤ) WordFault) → line_after part (put_all (numbers_of (words_of bytes)) others) ≡ line_after now others) → holds ≡ line_after now (Ok []) → bytes ≡ strip_carriage_return (take end old.held)
     → new ≡ moved_past old 1 (drop (end + 1) old.held) → EndsLine old new part holds
 ended_here old new part now end bytes holds found read holds_is bytes_are passed =
@@ -194,14 +195,14 @@ ended_here old new part now end bytes holds found read holds_is bytes_are passed
       after = refl;
     })
 
--- what holds of each value that was given
+-- a fact of each value that was given
 pub given_all : {T E : Type 0} (r : Result T E) (P Q : T → Type 0) → IfGiven r P → ((x : T) → P x → Q x) → IfGiven r Q
 given_all (Ok x) P Q is all = all x is
 given_all (Err e) P Q is all = is
 
 -- with a piece more, each word that was read still has a byte, and each line
-pub fits_piece : (part : PartSeen) (old new : Seen) (rest left : Option (List ℕ)) (piece : List ℕ) → FitsIn part old → TakesPiece old new rest left piece (old.held ++ piece) → FitsIn part new
-fits_piece part old new rest left piece fits took =
+pub fits_piece : (part : PartSeen) (old new : Seen) (source : Change (List ℕ)) (piece : List ℕ) → FitsIn part old → TakesPiece old new source piece (old.held ++ piece) → FitsIn part new
+fits_piece part old new source piece fits took =
     let taken : new.taken ≡ old.taken + length piece = ap (λ (s : Seen). s.taken) took.after in
     let passed : new.passed ≡ old.passed = ap (λ (s : Seen). s.passed) took.after in
     let size : length new.held ≡ length old.held + length piece = ap (λ (s : Seen). length s.held) took.after ∙ length-append old.held piece in
@@ -212,16 +213,16 @@ fits_piece part old new rest left piece fits took =
     }
 
 -- no line with words is ended
-pub is_read : (old new : Seen) (part : PartSeen) (o : Option Line) → MayPassRead old new part o → o ≡ None → PassedRead old new part
+pub is_read : (old new : Seen) (part : PartSeen) (o : Option LineContent) → MayPassRead old new part o → o ≡ None → PassedRead old new part
 is_read old new part None passes e = passes
 is_read old new part (Some l) passes e = absurd cc
 
 -- or one is
-pub is_filled_read : (old new : Seen) (part : PartSeen) (o : Option Line) (holds : Line) → MayPassRead old new part o → o ≡ Some holds → PassesFilled old new holds
+pub is_filled_read : (old new : Seen) (part : PartSeen) (o : Option LineContent) (holds : LineContent) → MayPassRead old new part o → o ≡ Some holds → PassesFilled old new holds
 is_filled_read old new part None holds passes e = absurd cc
 is_filled_read old new part (Some l) holds passes e = let same : l ≡ holds = cc in rw (← same) passes
 
--- where nothing was read of a line
+-- the case that nothing was read of a line
 pub fits_first : (s : Seen) (width : ℕ) → width ≡ s.words → s.passed + length s.held ≤ s.taken → FitsIn (no_part width) s
 fits_first s width is within = record { width = is; count = omega (arith, within); number = omega (arith, within) }
 
@@ -233,9 +234,9 @@ pub holds_so_far : (old new : Seen) (so_far : List ℕ) → new ≡ record old {
 holds_so_far old new so_far is = ap (λ (s : Seen). record s { held = so_far }) is
 
 -- each piece brings the end nearer
-pub nearer : (now mid past new : Seen) (rest left : Option (List ℕ)) (piece held so_far : List ℕ) (part : PartSeen) → now.at_end ≡ false → TakesPiece now mid rest left piece held → ((0 < length piece) ⊎ (mid.at_end ≡ true))
+pub nearer : (now mid past new : Seen) (source : Change (List ℕ)) (piece held so_far : List ℕ) (part : PartSeen) → now.at_end ≡ false → TakesPiece now mid source piece held → ((0 < length piece) ⊎ (mid.at_end ≡ true))
     → PassedRead (record mid { held = so_far }) past part → new ≡ record past { held = new.held } → (new.limit - new.taken) + (if new.at_end then 0 else 1) < (now.limit - now.taken) + (if now.at_end then 0 else 1)
-nearer now mid past new rest left piece held so_far part is_open took moves read is =
+nearer now mid past new source piece held so_far part is_open took moves read is =
     let taken : new.taken ≡ now.taken + length piece = ap (λ (s : Seen). s.taken) is ∙ ap (λ (s : Seen). s.taken) read.passed.after ∙ ap (λ (s : Seen). s.taken) took.after in
     let limit : new.limit ≡ now.limit = ap (λ (s : Seen). s.limit) is ∙ ap (λ (s : Seen). s.limit) read.passed.after ∙ ap (λ (s : Seen). s.limit) took.after in
     let ends : new.at_end ≡ mid.at_end = ap (λ (s : Seen). s.at_end) is ∙ ap (λ (s : Seen). s.at_end) read.passed.after in

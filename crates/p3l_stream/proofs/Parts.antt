@@ -6,7 +6,7 @@ use Rattle.std.proofs.lemmas.Bool.{cond-false, cond-true}
 use Rattle.std.proofs.lemmas.Bool.Decides.{nat_tests}
 use Rattle.std.proofs.lemmas.List.{drop_more}
 use Rattle.std.proofs.lemmas.List.Elements.{filter-append}
-use Rattle.p3l_stream.specs.declared.line.Line.{Line}
+use Rattle.p3l_stream.specs.declared.line.LineContent.{LineContent}
 use Rattle.p3l_stream.specs.declared.word.WordFault.{WordFault}
 use Rattle.p3l_stream.specs.Ended.{IsLine, held_by}
 use Rattle.p3l_stream.specs.Lines.{line_from}
@@ -26,7 +26,7 @@ starts_by : (width : ℕ) (read : Result (List ℤ) WordFault) → line_from wid
 starts_by width (Ok numbers) = line_from-counted width numbers
 starts_by width (Err first) = refl
 
--- where nothing was read, the bytes at hand are the line
+-- if nothing was read, the bytes at hand are the line
 pub stands_first : (width : ℕ) (held : List ℕ) → IsLine held → StandsFor (no_part width) held held
 stands_first width held is_line = record {
   held_is = is_line;
@@ -207,8 +207,8 @@ pub put_all-none : (read : Result (List ℤ) WordFault) → put_all read (Ok [])
 put_all-none (Err first) = refl
 put_all-none (Ok numbers) = put_each-none numbers
 
--- what the line holds, after its other words were read
-pub line_after-read : (part now : PartSeen) (bytes line_bytes : List ℕ) (holds : Line)
+-- the content of the line, after its other words were read
+pub line_after-read : (part now : PartSeen) (bytes line_bytes : List ℕ) (holds : LineContent)
     → ((others : Result (List ℤ) WordFault) → line_after part (put_all (numbers_of (words_of bytes)) others) ≡ line_after now others) → holds ≡ line_after now (Ok []) → bytes ≡ strip_carriage_return line_bytes
     → line_after part (numbers_of (words_of (strip_carriage_return line_bytes))) ≡ holds
 line_after-read part now bytes line_bytes holds read holds_is bytes_are =

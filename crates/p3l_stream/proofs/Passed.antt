@@ -1,7 +1,7 @@
 -- Lines that were passed, one after another.
 use Rattle.std.proofs.Common.{◌≡◌, ℕ, ◌+◌, ◌<◌, List, [], ◌∷◌, ◌++◌, length, take, drop, position, Option, Some, None, refl, ap, sym, ◌∙◌, arith, append_assoc, length-append}
-use Rattle.p3l_stream.specs.declared.line.Line.{Line}
-use Rattle.p3l_stream.specs.declared.line.Line.TheVariants as line
+use Rattle.p3l_stream.specs.declared.line.LineContent.{LineContent}
+use Rattle.p3l_stream.specs.declared.line.LineContent.TheVariants as line
 use Rattle.p3l_stream.specs.Ended.{IsLine, ended, held_by}
 use Rattle.p3l_stream.specs.Lines.{is_feed}
 use Rattle.p3l_stream.specs.Passing.{MayPassLine, OnlyPasses, PassedBlanks, PassesFilled, PassesLine, moved_past}
@@ -10,7 +10,7 @@ use Rattle.p3l_stream.proofs.Blanks.{blank-append, ended-append}
 use Rattle.p3l_stream.proofs.Feeds.{PartsAt, parts_at}
 
 -- the first line was passed, which is ended at this place
-pub passes_to : (old new : Seen) (end : ℕ) (holds : Line) → Some end ≡ position is_feed old.held → held_by old.words (take end old.held) ≡ holds → new ≡ moved_past old 1 (drop (end + 1) old.held) → PassesLine old new holds
+pub passes_to : (old new : Seen) (end : ℕ) (holds : LineContent) → Some end ≡ position is_feed old.held → held_by old.words (take end old.held) ≡ holds → new ≡ moved_past old 1 (drop (end + 1) old.held) → PassesLine old new holds
 passes_to old new end holds found is passed =
     let parts : PartsAt old.held end = parts_at old.held end found in
     rw passed (record { first = take end old.held; is_line = parts.is_line; holds_it = is; bytes_are = parts.whole; after = refl })
@@ -30,7 +30,7 @@ pub same_words : (s now : Seen) (n : ℕ) → now ≡ moved_past s n now.held �
 same_words s now n is = ap (λ (x : Seen). x.words) is
 
 -- the first line of what is left was passed, which has no words
-pub passed_blank : (old now new : Seen) (holds : Line) → PassedBlanks old now → PassesLine now new holds → holds ≡ line.Blank → PassedBlanks old new
+pub passed_blank : (old now new : Seen) (holds : LineContent) → PassedBlanks old now → PassesLine now new holds → holds ≡ line.Blank → PassedBlanks old new
 passed_blank old now new holds was is blank = record {
   blanks = was.blanks ++ is.first ∷ [];
   are_blank = blank-append old.words was.blanks (is.first ∷ []) was.are_blank (is.is_line, ap (λ (w : ℕ). held_by w is.first) (sym (same_words old now _ was.after)) ∙ is.holds_it ∙ blank, tt);
@@ -43,7 +43,7 @@ passed_blank old now new holds was is blank = record {
 }
 
 -- the first line of what is left was passed, which has words
-pub passed_filled : (old now new : Seen) (holds : Line) → PassedBlanks old now → PassesLine now new holds → ¬ (holds ≡ line.Blank) → PassesFilled old new holds
+pub passed_filled : (old now new : Seen) (holds : LineContent) → PassedBlanks old now → PassesLine now new holds → ¬ (holds ≡ line.Blank) → PassesFilled old new holds
 passed_filled old now new holds was is filled = record {
   blanks = was.blanks;
   first = is.first;
@@ -56,16 +56,16 @@ passed_filled old now new holds was is filled = record {
 }
 
 -- a line that was passed is one
-pub is_passed : (old new : Seen) (o : Option Line) (holds : Line) → MayPassLine old new o → o ≡ Some holds → PassesLine old new holds
+pub is_passed : (old new : Seen) (o : Option LineContent) (holds : LineContent) → MayPassLine old new o → o ≡ Some holds → PassesLine old new holds
 is_passed old new None holds is e = absurd cc
 is_passed old new (Some l) holds is e = let same : l ≡ holds = cc in rw (← same) is
 
--- what is left has a byte less at least
-pub fewer_left : (old new : Seen) (holds : Line) → PassesLine old new holds → length new.held < length old.held
+-- at least one byte less is left
+pub fewer_left : (old new : Seen) (holds : LineContent) → PassesLine old new holds → length new.held < length old.held
 fewer_left old new holds is = omega (arith, ap length is.bytes_are, length-append is.first (10 ∷ new.held))
 
 -- no line is ended any more
-pub passed_all : (old now new : Seen) (o : Option Line) → PassedBlanks old now → MayPassLine now new o → o ≡ None → PassedBlanks old new × IsLine new.held
+pub passed_all : (old now new : Seen) (o : Option LineContent) → PassedBlanks old now → MayPassLine now new o → o ≡ None → PassedBlanks old new × IsLine new.held
 passed_all old now new None was is e = (rw is.1 was, rw is.1 is.0)
 passed_all old now new (Some l) was is e = absurd cc
 

@@ -6,7 +6,7 @@ use Rattle.std.proofs.lemmas.Bool.{cond-false, eq-eqb}
 use Rattle.std.proofs.lemmas.List.Elements.{All-get_or, All-weaker}
 use Rattle.std.proofs.lemmas.List.Splits.{slice_split_none}
 use Rattle.std.proofs.lemmas.List.Sums.{position_or_len_is}
-use Rattle.p3l_stream.specs.declared.line.Line.TheVariants as line
+use Rattle.p3l_stream.specs.declared.line.LineContent.TheVariants as line
 use Rattle.p3l_stream.specs.Ended.{held_by}
 use Rattle.p3l_stream.specs.Lines.{is_feed, line_from, line_of}
 use Rattle.p3l_stream.specs.Words.{is_blank, is_filled, number_of, numbers_of, put_number, words_of}

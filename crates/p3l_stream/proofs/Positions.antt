@@ -20,7 +20,7 @@ missing : (at size : ℕ) (b : Bool) → ltb at size ≡ b → at ≤ size → �
 missing at size true below within is = absurd cc
 missing at size false below within is = grind arith
 
--- where none was found, the first place is the length
+-- if none was found, the first place is the length
 pub position-none : {X : Type 0} (p : X → Bool) (xs : List X) → position p xs ≡ None → position_or_len p xs ≡ length xs
 position-none p xs is = missing (position_or_len p xs) (length xs) _ refl (position_or_len-le p xs) is
 

@@ -2,42 +2,42 @@
 use Rattle.std.proofs.Common.{◌≡◌, ◌≢◌, ℕ, ◌+◌, ◌<◌, ◌≤◌, true, false, List, [], ◌∷◌, ◌++◌, length, Option, Some, None, Result, Ok, Err, refl, ap, sym, ◌∙◌, inl, inr, arith, append_assoc, append-nil, length-append}
 use Rattle.std.specs.Result.{IsErr}
 use Rattle.p3l_base.specs.declared.NoMemory.{NoMemory}
-use Rattle.p3l_stream.specs.declared.line.Line.{Line}
-use Rattle.p3l_stream.specs.declared.line.Line.TheVariants as line
-use Rattle.p3l_stream.specs.declared.next.Next.{Next}
-use Rattle.p3l_stream.specs.declared.next.Next.TheVariants as next
+use Rattle.p3l_io.specs.Change.{Becomes, Change, Observation, change}
+use Rattle.p3l_stream.specs.declared.line.LineContent.{LineContent}
+use Rattle.p3l_stream.specs.declared.line.LineContent.TheVariants as line
+use Rattle.p3l_stream.specs.declared.items.Ending.TheVariants as ending
 use Rattle.p3l_stream.specs.declared.taken.Cutoff.TheVariants as stop
 use Rattle.p3l_stream.specs.Answers.{AnswerOf, Answers, FindsLine, FindsNone, Takes, answer_for}
 use Rattle.p3l_stream.specs.Ended.{AreBlank, IsLine, ended, held_by}
 use Rattle.p3l_stream.specs.Lines.{last_line}
 use Rattle.p3l_stream.specs.Passing.{OnlyPasses, PassedBlanks, PassesFilled, PassesLast, TakesPiece, moved_past}
-use Rattle.p3l_stream.specs.Seen.{Seen}
-use Rattle.p3l_stream.specs.Taken.{IsTaken}
+use Rattle.p3l_stream.specs.Seen.{Answer, Seen}
+use Rattle.p3l_stream.specs.Taken.{IsTaken, IsTakenOf}
 use Rattle.p3l_stream.proofs.Blanks.{blank-append, bytes-after}
 use Rattle.p3l_stream.proofs.Feeds.{fewer_after, place-line}
 use Rattle.p3l_stream.proofs.Pieces.{not_both}
 
 -- nothing was taken
-pub IsTaken-none : (rest : Option (List ℕ)) → IsTaken rest rest []
-IsTaken-none None = refl
-IsTaken-none (Some bytes) = (bytes, refl, refl)
-
--- what was taken twice
-pub IsTaken-twice : (rest mid left : Option (List ℕ)) (got piece : List ℕ) → IsTaken rest mid got → IsTaken mid left piece → IsTaken rest left (got ++ piece)
-IsTaken-twice None mid left got piece was is = twice mid was is
+pub IsTaken-none : (source : Observation (List ℕ)) → IsTaken (change source source) []
+IsTaken-none source = by source.content
   where
-    twice : (mid : Option (List ℕ)) → mid ≡ None → IsTaken mid left piece → left ≡ None
-    twice None e is = is
-    twice (Some x) e is = absurd cc
-IsTaken-twice (Some bytes) mid left got piece was is = twice mid was.1 is
-  where
-    twice : (mid : Option (List ℕ)) → mid ≡ Some was.0 → IsTaken mid left piece → (later : List ℕ) × (left ≡ Some later) × (bytes ≡ (got ++ piece) ++ later)
-    twice None e is = absurd cc
-    twice (Some x) e is =
-        let same : was.0 ≡ x = cc in
-        (is.0, is.1, was.2 ∙ ap (λ (t : List ℕ). got ++ t) (same ∙ is.2) ∙ sym (append_assoc got piece is.0))
+    by : (content : Option (List ℕ)) → Becomes (IsTakenOf []) content content
+    by None = refl
+    by (Some bytes) = (bytes, refl, refl)
 
-pub takes_none : (s : Seen) (rest : Option (List ℕ)) → s.taken ≤ s.limit → (s.at_end ≡ true → s.taken < s.limit) → Takes s s rest rest []
+-- bytes taken one after the other
+pub IsTaken-twice : (first mid last : Observation (List ℕ)) (got piece : List ℕ) → IsTaken (change first mid) got → IsTaken (change mid last) piece → IsTaken (change first last) (got ++ piece)
+IsTaken-twice first mid last got piece was is = by first.content mid.content last.content was is
+  where
+    by : (first mid last : Option (List ℕ)) → Becomes (IsTakenOf got) first mid → Becomes (IsTakenOf piece) mid last → Becomes (IsTakenOf (got ++ piece)) first last
+    by None None last was is = is
+    by None (Some x) last was is = absurd cc
+    by (Some bytes) None last was is = absurd (let none : ◌≡◌ {A = Option (List ℕ)} None (Some was.0) = was.1 in cc)
+    by (Some bytes) (Some x) last was is =
+        let same : x ≡ was.0 = (let e : Some x ≡ Some was.0 = was.1 in cc) in
+        (is.0, is.1, was.2 ∙ ap (λ (t : List ℕ). got ++ t) (sym same ∙ is.2) ∙ sym (append_assoc got piece is.0))
+
+pub takes_none : (s : Seen) (rest : Observation (List ℕ)) → s.taken ≤ s.limit → (s.at_end ≡ true → s.taken < s.limit) → Takes s s (change rest rest) []
 takes_none s rest within below = record {
   same_words = refl;
   same_limit = refl;
@@ -50,7 +50,7 @@ takes_none s rest within below = record {
 }
 
 -- a piece after other bytes
-pub takes_more : (old now new : Seen) (rest mid left : Option (List ℕ)) (got piece held : List ℕ) → Takes old now rest mid got → now.at_end ≡ false → TakesPiece now new mid left piece held → Takes old new rest left (got ++ piece)
+pub takes_more : (old now new : Seen) (rest mid left : Observation (List ℕ)) (got piece held : List ℕ) → Takes old now (change rest mid) got → now.at_end ≡ false → TakesPiece now new (change mid left) piece held → Takes old new (change rest left) (got ++ piece)
 takes_more old now new rest mid left got piece held was is_open is = record {
   same_words = ap (λ (s : Seen). s.words) is.after ∙ was.same_words;
   same_limit = ap (λ (s : Seen). s.limit) is.after ∙ was.same_limit;
@@ -63,8 +63,8 @@ takes_more old now new rest mid left got piece held was is_open is = record {
 }
 
 -- passing lines takes nothing
-pub takes_passing : (old now new : Seen) (rest left : Option (List ℕ)) (got : List ℕ) → Takes old now rest left got → OnlyPasses now new → Takes old new rest left got
-takes_passing old now new rest left got was is =
+pub takes_passing : (old now new : Seen) (source : Change (List ℕ)) (got : List ℕ) → Takes old now source got → OnlyPasses now new → Takes old new source got
+takes_passing old now new source got was is =
     let taken_is : new.taken ≡ now.taken = ap (λ (s : Seen). s.taken) is in
     let limit_is : new.limit ≡ now.limit = ap (λ (s : Seen). s.limit) is in
     let end_is : new.at_end ≡ now.at_end = ap (λ (s : Seen). s.at_end) is in
@@ -84,16 +84,16 @@ pub passes_only : (now new : Seen) (n : ℕ) (held : List ℕ) → new ≡ moved
 passes_only now new n held is = is ∙ sym (ap (λ (s : Seen). record now { held = s.held; passed = s.passed }) is)
 
 -- bytes were taken, of which lines without words were passed, and what is left is no ended line
-pub record IsOnWay (old now : Seen) (rest left : Option (List ℕ)) : Type 0 where
+pub record IsOnWay (old now : Seen) (source : Change (List ℕ)) : Type 0 where
   pub got : List ℕ
   pub blanks : List (List ℕ)
-  pub takes : Takes old now rest left got
+  pub takes : Takes old now source got
   pub are_blank : AreBlank old.words blanks
   pub is_line : IsLine now.held
   pub bytes_are : old.held ++ got ≡ ended blanks ++ now.held
   pub passed : now.passed ≡ old.passed + length blanks
 
-pub starts : (s : Seen) (rest : Option (List ℕ)) → s.taken ≤ s.limit → (s.at_end ≡ true → s.taken < s.limit) → IsLine s.held → IsOnWay s s rest rest
+pub starts : (s : Seen) (rest : Observation (List ℕ)) → s.taken ≤ s.limit → (s.at_end ≡ true → s.taken < s.limit) → IsLine s.held → IsOnWay s s (change rest rest)
 starts s rest within below is_line = record {
   got = [];
   blanks = [];
@@ -105,8 +105,8 @@ starts s rest within below is_line = record {
 }
 
 -- one piece more, in which no line with words is ended
-pub goes_on : (old now mid new : Seen) (rest was_left left : Option (List ℕ)) (piece : List ℕ) → IsOnWay old now rest was_left → now.at_end ≡ false
-    → TakesPiece now mid was_left left piece (now.held ++ piece) → PassedBlanks mid new → IsLine new.held → IsOnWay old new rest left
+pub goes_on : (old now mid new : Seen) (rest was_left left : Observation (List ℕ)) (piece : List ℕ) → IsOnWay old now (change rest was_left) → now.at_end ≡ false
+    → TakesPiece now mid (change was_left left) piece (now.held ++ piece) → PassedBlanks mid new → IsLine new.held → IsOnWay old new (change rest left)
 goes_on old now mid new rest was_left left piece way is_open took passed is_line =
     let words_are : mid.words ≡ old.words = ap (λ (s : Seen). s.words) took.after ∙ way.takes.same_words in
     let held_is : mid.held ≡ now.held ++ piece = ap (λ (s : Seen). s.held) took.after in
@@ -115,7 +115,7 @@ goes_on old now mid new rest was_left left piece way is_open took passed is_line
     record {
       got = way.got ++ piece;
       blanks = way.blanks ++ passed.blanks;
-      takes = takes_passing _ mid new _ _ _ (takes_more _ _ _ _ _ _ _ _ _ way.takes is_open took) (passes_only mid new _ _ passed.after);
+      takes = takes_passing _ mid new _ _ (takes_more _ _ _ _ _ _ _ _ _ way.takes is_open took) (passes_only mid new _ _ passed.after);
       are_blank = blank-append old.words way.blanks passed.blanks way.are_blank (rw (← words_are) passed.are_blank);
       is_line = is_line;
       bytes_are = bytes-after way.blanks passed.blanks (old.held ++ way.got) now.held _ piece new.held way.bytes_are (sym held_is ∙ passed.bytes_are) (sym (append_assoc old.held way.got piece));
@@ -123,10 +123,10 @@ goes_on old now mid new rest was_left left piece way is_open took passed is_line
     }
 
 -- an answer by a line with words
-pub answers_line : (old new : Seen) (bytes : List ℕ) (holds : Line) (answer : Next) → holds ≢ line.Blank → FindsLine old new bytes holds → answer ≡ answer_for holds new.passed → AnswerOf old new bytes (Ok answer)
+pub answers_line : (old new : Seen) (bytes : List ℕ) (holds : LineContent) (answer : Answer) → holds ≢ line.Blank → FindsLine old new bytes holds → answer ≡ answer_for holds new.passed → AnswerOf old new bytes (Ok answer)
 answers_line old new bytes holds answer filled found is = rw is (by_line holds filled found)
   where
-    by_line : (holds : Line) → holds ≢ line.Blank → FindsLine old new bytes holds → AnswerOf old new bytes (Ok (answer_for holds new.passed))
+    by_line : (holds : LineContent) → holds ≢ line.Blank → FindsLine old new bytes holds → AnswerOf old new bytes (Ok (answer_for holds new.passed))
     by_line line.Blank filled found = absurd (filled refl)
     by_line (line.Item words) filled found = found
     by_line line.BadWord filled found = (found, refl)
@@ -134,8 +134,8 @@ answers_line old new bytes holds answer filled found is = rw is (by_line holds f
     by_line line.OutOfRange filled found = (found, refl)
 
 -- a line with words is ended in the next piece
-pub finds_in_piece : (old now mid new : Seen) (rest was_left left : Option (List ℕ)) (piece : List ℕ) (holds : Line) (answer : Next) → IsOnWay old now rest was_left → now.at_end ≡ false
-    → TakesPiece now mid was_left left piece (now.held ++ piece) → PassesFilled mid new holds → answer ≡ answer_for holds new.passed → Answers old new rest left (Ok answer)
+pub finds_in_piece : (old now mid new : Seen) (rest was_left left : Observation (List ℕ)) (piece : List ℕ) (holds : LineContent) (answer : Answer) → IsOnWay old now (change rest was_left) → now.at_end ≡ false
+    → TakesPiece now mid (change was_left left) piece (now.held ++ piece) → PassesFilled mid new holds → answer ≡ answer_for holds new.passed → Answers old new (change rest left) (Ok answer)
 finds_in_piece old now mid new rest was_left left piece holds answer way is_open took passed is =
     let words_are : mid.words ≡ old.words = ap (λ (s : Seen). s.words) took.after ∙ way.takes.same_words in
     let held_is : mid.held ≡ now.held ++ piece = ap (λ (s : Seen). s.held) took.after in
@@ -143,7 +143,7 @@ finds_in_piece old now mid new rest was_left left piece holds answer way is_open
     let before : mid.passed ≡ now.passed = ap (λ (s : Seen). s.passed) took.after in
     record {
       got = way.got ++ piece;
-      takes = takes_passing _ mid new _ _ _ (takes_more _ _ _ _ _ _ _ _ _ way.takes is_open took) (passes_only mid new _ _ passed.after);
+      takes = takes_passing _ mid new _ _ (takes_more _ _ _ _ _ _ _ _ _ way.takes is_open took) (passes_only mid new _ _ passed.after);
       answer = answers_line old new _ holds answer passed.has_words (record {
         blanks = way.blanks ++ passed.blanks;
         first = passed.first;
@@ -158,16 +158,16 @@ finds_in_piece old now mid new rest was_left left piece holds answer way is_open
     }
 
 -- less than the piece is left after it
-pub few_left : (now mid new : Seen) (left was_left : Option (List ℕ)) (piece : List ℕ) (holds : Line) → IsLine now.held → TakesPiece now mid was_left left piece (now.held ++ piece) → PassesFilled mid new holds → length new.held < 4096
-few_left now mid new left was_left piece holds is_line took passed =
+pub few_left : (now mid new : Seen) (source : Change (List ℕ)) (piece : List ℕ) (holds : LineContent) → IsLine now.held → TakesPiece now mid source piece (now.held ++ piece) → PassesFilled mid new holds → length new.held < 4096
+few_left now mid new source piece holds is_line took passed =
     let held_is : mid.held ≡ now.held ++ piece = ap (λ (s : Seen). s.held) took.after in
     let all : now.held ++ piece ≡ (ended passed.blanks ++ passed.first) ++ 10 ∷ new.held = sym held_is ∙ passed.bytes_are ∙ sym (append_assoc (ended passed.blanks) passed.first (10 ∷ new.held)) in
     let fewer : length new.held < length piece = fewer_after now.held piece _ new.held (place-line now.held is_line) all in
     omega (arith, took.short)
 
 -- no line with words is ended, and the rest of a line is dropped
-pub drops : (old now : Seen) (rest left : Option (List ℕ)) (way : IsOnWay old now rest left) → FindsNone old (record now { held = [] }) (old.held ++ way.got)
-drops old now rest left way = (
+pub drops : (old now : Seen) (source : Change (List ℕ)) (way : IsOnWay old now source) → FindsNone old (record now { held = [] }) (old.held ++ way.got)
+drops old now source way = (
   now.held,
   record {
     blanks = way.blanks;
@@ -180,10 +180,10 @@ drops old now rest left way = (
 )
 
 -- a fault of reading
-pub answers_fault : (old now : Seen) (rest mid left : Option (List ℕ)) → IsOnWay old now rest mid → IsTaken mid left [] → now.at_end ≡ false → now.taken < now.limit → Answers old (record now { held = [] }) rest left (Ok next.ReadFault)
+pub answers_fault : (old now : Seen) (rest mid left : Observation (List ℕ)) → IsOnWay old now (change rest mid) → IsTaken (change mid left) [] → now.at_end ≡ false → now.taken < now.limit → Answers old (record now { held = [] }) (change rest left) (Ok (Err ending.ReadFault))
 answers_fault old now rest mid left way none is_open below = record {
   got = way.got ++ [];
-  takes = takes_passing old now (record now { held = [] }) rest left (way.got ++ [])
+  takes = takes_passing old now (record now { held = [] }) (change rest left) (way.got ++ [])
       (takes_more old now now rest mid left way.got [] now.held way.takes is_open (record {
         short = omega arith;
         after = ap (λ n. record now { taken = n }) (omega arith);
@@ -193,36 +193,36 @@ answers_fault old now rest mid left way none is_open below = record {
         all = λ ends. absurd (not_both now.at_end ends is_open);
       }))
       refl;
-  answer = (rw (append-nil way.got) (drops old now rest mid way), is_open, below);
+  answer = (rw (append-nil way.got) (drops old now (change rest mid) way), is_open, below);
 }
 
 -- the limit
-pub answers_limit : (old now : Seen) (rest left : Option (List ℕ)) → IsOnWay old now rest left → now.limit ≤ now.taken → Answers old (record now { held = [] }) rest left (Ok next.TooLong)
-answers_limit old now rest left way reached = record {
+pub answers_limit : (old now : Seen) (source : Change (List ℕ)) → IsOnWay old now source → now.limit ≤ now.taken → Answers old (record now { held = [] }) source (Ok (Err ending.TooLong))
+answers_limit old now source way reached = record {
   got = way.got;
-  takes = takes_passing old now (record now { held = [] }) rest left way.got way.takes refl;
-  answer = (drops old now rest left way, omega (arith, way.takes.within));
+  takes = takes_passing old now (record now { held = [] }) source way.got way.takes refl;
+  answer = (drops old now source way, omega (arith, way.takes.within));
 }
 
 -- bytes that are a line with words are no empty ones
-filled_last : (width : ℕ) (part : List ℕ) (holds : Line) → held_by width part ≡ holds → holds ≢ line.Blank → length (last_line stop.End part) ≡ 1
+filled_last : (width : ℕ) (part : List ℕ) (holds : LineContent) → held_by width part ≡ holds → holds ≢ line.Blank → length (last_line stop.End part) ≡ 1
 filled_last width [] holds is filled = absurd (filled (sym is))
 filled_last width (byte ∷ bytes) holds is filled = refl
 
 -- the last line, or the end
-pub answers_last : (old now new : Seen) (rest left : Option (List ℕ)) (holds : Line) (answer : Next) → IsOnWay old now rest left → now.at_end ≡ true → PassesLast now new holds → answer ≡ answer_for holds new.passed → Answers old new rest left (Ok answer)
-answers_last old now new rest left holds answer way ends passed is =
+pub answers_last : (old now new : Seen) (source : Change (List ℕ)) (holds : LineContent) (answer : Answer) → IsOnWay old now source → now.at_end ≡ true → PassesLast now new holds → answer ≡ answer_for holds new.passed → Answers old new source (Ok answer)
+answers_last old now new source holds answer way ends passed is =
     let count : new.passed ≡ now.passed + length (last_line stop.End now.held) = ap (λ (s : Seen). s.passed) passed.after in
     let held_is : new.held ≡ [] = ap (λ (s : Seen). s.held) passed.after in
     let end_is : new.at_end ≡ true = ap (λ (s : Seen). s.at_end) passed.after ∙ ends in
     let holds_it : held_by old.words now.held ≡ holds = ap (λ (w : ℕ). held_by w now.held) (sym way.takes.same_words) ∙ passed.holds_it in
     record {
       got = way.got;
-      takes = takes_passing _ now new _ _ _ way.takes (passes_only now new _ _ passed.after);
+      takes = takes_passing _ now new _ _ way.takes (passes_only now new _ _ passed.after);
       answer = by_line holds holds_it is count held_is end_is;
     }
   where
-    found : (holds : Line) → holds ≢ line.Blank → held_by old.words now.held ≡ holds → new.passed ≡ now.passed + length (last_line stop.End now.held) → new.held ≡ [] → new.at_end ≡ true → FindsLine old new (old.held ++ way.got) holds
+    found : (holds : LineContent) → holds ≢ line.Blank → held_by old.words now.held ≡ holds → new.passed ≡ now.passed + length (last_line stop.End now.held) → new.held ≡ [] → new.at_end ≡ true → FindsLine old new (old.held ++ way.got) holds
     found holds filled holds_it count held_is end_is = record {
       blanks = way.blanks;
       first = now.held;
@@ -235,7 +235,7 @@ answers_last old now new rest left holds answer way ends passed is =
       counted = omega (arith, way.passed, filled_last old.words now.held holds holds_it filled);
     }
 
-    by_line : (holds : Line) → held_by old.words now.held ≡ holds → answer ≡ answer_for holds new.passed → new.passed ≡ now.passed + length (last_line stop.End now.held) → new.held ≡ [] → new.at_end ≡ true → AnswerOf old new (old.held ++ way.got) (Ok answer)
+    by_line : (holds : LineContent) → held_by old.words now.held ≡ holds → answer ≡ answer_for holds new.passed → new.passed ≡ now.passed + length (last_line stop.End now.held) → new.held ≡ [] → new.at_end ≡ true → AnswerOf old new (old.held ++ way.got) (Ok answer)
     by_line line.Blank holds_it is count held_is end_is = rw is (
       (
         now.held,
@@ -257,6 +257,6 @@ answers_last old now new rest left holds answer way ends passed is =
     by_line line.OutOfRange holds_it is count held_is end_is = answers_line old new _ _ answer (λ e. cc) (found _ (λ e. cc) holds_it count held_is end_is) is
 
 -- out of memory
-pub answers_in_vain : (old new : Seen) (rest left : Option (List ℕ)) (result : Result Next NoMemory) (got : List ℕ) → IsErr result → Takes old new rest left got → Answers old new rest left result
-answers_in_vain old new rest left (Ok answer) got err takes = absurd (not_both true refl (sym err))
-answers_in_vain old new rest left (Err e) got err takes = record { got = got; takes = takes; answer = tt }
+pub answers_in_vain : (old new : Seen) (source : Change (List ℕ)) (result : Result Answer NoMemory) (got : List ℕ) → IsErr result → Takes old new source got → Answers old new source result
+answers_in_vain old new source (Ok answer) got err takes = absurd (not_both true refl (sym err))
+answers_in_vain old new source (Err e) got err takes = record { got = got; takes = takes; answer = tt }

@@ -1,10 +1,14 @@
--- What one call takes.
+-- The bytes that one call takes.
 use Rattle.std.proofs.Common.{ℕ, List, ◌++◌, take, drop, Option, Some, None, Ok, sym, ap, ◌∙◌}
 use Rattle.std.proofs.lemmas.List.{take-append-drop}
-use Rattle.p3l_io.specs.Content.{Takes}
-use Rattle.p3l_stream.specs.Taken.{IsTaken}
+use Rattle.p3l_io.specs.Change.{Becomes, Change}
+use Rattle.p3l_io.specs.Content.{Takes, TakesOf}
+use Rattle.p3l_stream.specs.Taken.{IsTaken, IsTakenOf}
 
--- what a call gave was taken
-pub IsTaken-one : (old new : Option (List ℕ)) (buf : List ℕ) (n : ℕ) → Takes old new (Ok n) buf → IsTaken old new (take n buf)
-IsTaken-one None new buf n gave = gave
-IsTaken-one (Some rest) new buf n gave = (drop n rest, gave.left, sym (take-append-drop n rest) ∙ ap (λ front. front ++ drop n rest) (sym gave.given))
+-- the bytes that a call gave were taken
+pub IsTaken-one : (source : Change (List ℕ)) (buf : List ℕ) (n : ℕ) → Takes source (Ok n) buf → IsTaken source (take n buf)
+IsTaken-one source buf n gave = by source.old.content source.new.content gave
+  where
+    by : (old new : Option (List ℕ)) → Becomes (TakesOf (Ok n) buf) old new → Becomes (IsTakenOf (take n buf)) old new
+    by None new gave = gave
+    by (Some rest) new gave = (drop n rest, gave.left, sym (take-append-drop n rest) ∙ ap (λ front. front ++ drop n rest) (sym gave.given))

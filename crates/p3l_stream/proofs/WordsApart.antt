@@ -1,4 +1,4 @@
--- How the words of a line follow one another.
+-- The order of the words of a line.
 use Rattle.std.proofs.Common.{◌≡◌, ℕ, suc, ◌+◌, ◌<◌, true, false, not, cond, List, [], ◌∷◌, length, take, drop, filter, Some, unwrap_or, position, length-drop, refl, ap, sym, subst, ◌∙◌, arith}
 use Rattle.std.specs.List.{onto_first, position_or_len, slice_split}
 use Rattle.std.proofs.Math.Nat.{zero-lt-suc}
@@ -6,11 +6,11 @@ use Rattle.std.proofs.Math.Numerals.{one-add}
 use Rattle.p3l_stream.proofs.Positions.{position-some, unwrap_or-position}
 use Rattle.p3l_stream.specs.Words.{IsFirstWord, is_blank, is_filled, is_of_word, words_of}
 
--- where the first blank is, or the end
+-- the place of the first blank, or the end
 abbrev pub word_len : List ℕ → ℕ
 word_len bytes = position_or_len is_blank bytes
 
--- where the first word begins, or the end
+-- the place where the first word begins, or the end
 abbrev pub word_start : List ℕ → ℕ
 word_start bytes = position_or_len is_of_word bytes
 
@@ -82,7 +82,7 @@ words_of-first (byte ∷ bytes) within =
     later : (byte : ℕ) (bytes : List ℕ) → BeginsAt bytes (words_of bytes) (word_start bytes) → BeginsAt (byte ∷ bytes) (words_of bytes) (suc (word_start bytes))
     later byte bytes begins = record { first = begins.first; some = begins.some }
 
--- where no byte is of a word, there is no word
+-- if no byte is of a word, there is no word
 pub words_of-none : (bytes : List ℕ) → word_start bytes ≡ length bytes → words_of bytes ≡ []
 words_of-none [] none = refl
 words_of-none (byte ∷ bytes) none =

@@ -1,16 +1,16 @@
--- What a call of the stream answers.
+-- Answers of a call of the stream.
 use Rattle.std.specs.Prelude.{◌≡◌, ℕ, ◌+◌, ◌<◌, ◌≤◌, Bool, true, false, List, [], ◌∷◌, ◌++◌, ◌⊎◌, length, Option, Some, None, Result, Ok, Err}
 use Rattle.p3l_base.specs.declared.NoMemory.{NoMemory}
-use Rattle.p3l_io.specs.Causes.{Rose}
+use Rattle.p3l_io.specs.Change.{Change, HasRisen, HasSameFaults}
 use Rattle.p3l_io.specs.declared.fault.Failed.{Failed}
-use Rattle.p3l_stream.specs.declared.line.Line.{Line}
-use Rattle.p3l_stream.specs.declared.line.Line.TheVariants as line
-use Rattle.p3l_stream.specs.declared.next.Next.{Next}
-use Rattle.p3l_stream.specs.declared.next.Next.TheVariants as next
+use Rattle.p3l_stream.specs.declared.line.LineContent.{LineContent}
+use Rattle.p3l_stream.specs.declared.line.LineContent.TheVariants as line
+use Rattle.p3l_stream.specs.declared.items.Ending.TheVariants as ending
 use Rattle.p3l_stream.specs.declared.taken.Cutoff.TheVariants as stop
 use Rattle.p3l_stream.specs.Ended.{AreBlank, IsLine, ended, held_by}
+use Rattle.p3l_stream.specs.Given.{GivenCause}
 use Rattle.p3l_stream.specs.Lines.{last_line}
-use Rattle.p3l_stream.specs.Seen.{Seen}
+use Rattle.p3l_stream.specs.Seen.{Answer, Seen, closed_by}
 use Rattle.p3l_stream.specs.Taken.{IsTaken}
 
 -- nothing is left, where that is known
@@ -19,15 +19,15 @@ IsAtEnd None = Unit {0}
 IsAtEnd (Some left) = left ≡ []
 
 -- these bytes were taken: none where the source was at its end before, and all where it came to its end
-pub record Takes (old new : Seen) (rest left : Option (List ℕ)) (got : List ℕ) : Type 0 where
+pub record Takes (old new : Seen) (source : Change (List ℕ)) (got : List ℕ) : Type 0 where
   pub same_words : new.words ≡ old.words
   pub same_limit : new.limit ≡ old.limit
   pub counted : new.taken ≡ old.taken + length got
   pub within : new.taken ≤ new.limit
   pub below : new.at_end ≡ true → new.taken < new.limit
-  pub given : IsTaken rest left got
+  pub given : IsTaken source got
   pub once : old.at_end ≡ true → (got ≡ []) × (new.at_end ≡ true)
-  pub all : old.at_end ≡ false → new.at_end ≡ true → IsAtEnd left
+  pub all : old.at_end ≡ false → new.at_end ≡ true → IsAtEnd source.new.content
 
 -- a line comes before other bytes, ended by a line feed, or by the end of the input with nothing
 -- after it
@@ -35,7 +35,7 @@ abbrev pub IsBefore : Bool → List ℕ → List ℕ → List ℕ → Type 0
 IsBefore at_end bytes first after = (bytes ≡ first ++ 10 ∷ after) ⊎ ((at_end ≡ true) × (bytes ≡ first) × (after ≡ []))
 
 -- the bytes have some lines without words, then one that holds this, and after them what is held; `before` lines were passed, and `now` are
-pub record Finds (width before now : ℕ) (at_end : Bool) (bytes held : List ℕ) (holds : Line) : Type 0 where
+pub record Finds (width before now : ℕ) (at_end : Bool) (bytes held : List ℕ) (holds : LineContent) : Type 0 where
   pub blanks : List (List ℕ)
   pub first : List ℕ
   pub after_blanks : List ℕ
@@ -56,7 +56,7 @@ pub record RunsOut (width before now count : ℕ) (bytes part : List ℕ) : Type
   pub counted : now ≡ before + (length blanks + count)
 
 -- the next line with words of an open stream that has these bytes to answer
-abbrev pub FindsLine : Seen → Seen → List ℕ → Line → Type 0
+abbrev pub FindsLine : Seen → Seen → List ℕ → LineContent → Type 0
 FindsLine old new bytes holds = Finds old.words old.passed new.passed new.at_end bytes new.held holds
 
 -- the lines of an open stream that has these bytes to answer have no words; a part that is no line is dropped
@@ -70,36 +70,35 @@ FindsEnd old new bytes =
     × (held_by old.words part ≡ line.Blank) × (new.held ≡ [])
 
 -- the answer of an open stream that has these bytes to answer
-abbrev pub AnswerOf : Seen → Seen → List ℕ → Result Next NoMemory → Type 0
-AnswerOf old new bytes (Ok (next.Item words)) = FindsLine old new bytes (line.Item words)
-AnswerOf old new bytes (Ok next.End) = FindsEnd old new bytes × (new.at_end ≡ true)
-AnswerOf old new bytes (Ok (next.BadWord number)) = FindsLine old new bytes line.BadWord × (number ≡ new.passed)
-AnswerOf old new bytes (Ok (next.WrongCount number had)) = FindsLine old new bytes (line.WrongCount had) × (number ≡ new.passed)
-AnswerOf old new bytes (Ok (next.OutOfRange number)) = FindsLine old new bytes line.OutOfRange × (number ≡ new.passed)
-AnswerOf old new bytes (Ok next.ReadFault) = FindsNone old new bytes × (new.at_end ≡ false) × (new.taken < new.limit)
-AnswerOf old new bytes (Ok next.TooLong) = FindsNone old new bytes × (new.taken ≡ new.limit)
+abbrev pub AnswerOf : Seen → Seen → List ℕ → Result Answer NoMemory → Type 0
+AnswerOf old new bytes (Ok (Ok words)) = FindsLine old new bytes (line.Item words)
+AnswerOf old new bytes (Ok (Err ending.End)) = FindsEnd old new bytes × (new.at_end ≡ true)
+AnswerOf old new bytes (Ok (Err (ending.BadWord number))) = FindsLine old new bytes line.BadWord × (number ≡ new.passed)
+AnswerOf old new bytes (Ok (Err (ending.WrongCount number had))) = FindsLine old new bytes (line.WrongCount had) × (number ≡ new.passed)
+AnswerOf old new bytes (Ok (Err (ending.OutOfRange number))) = FindsLine old new bytes line.OutOfRange × (number ≡ new.passed)
+AnswerOf old new bytes (Ok (Err ending.ReadFault)) = FindsNone old new bytes × (new.at_end ≡ false) × (new.taken < new.limit)
+AnswerOf old new bytes (Ok (Err ending.TooLong)) = FindsNone old new bytes × (new.taken ≡ new.limit)
 AnswerOf old new bytes (Err e) = Unit {0}
 
--- what a call of an open stream takes, and what it answers
-pub record Answers (old new : Seen) (rest left : Option (List ℕ)) (result : Result Next NoMemory) : Type 0 where
+-- a call of an open stream takes these bytes, and answers so
+pub record Answers (old new : Seen) (source : Change (List ℕ)) (result : Result Answer NoMemory) : Type 0 where
   pub got : List ℕ
-  pub takes : Takes old new rest left got
+  pub takes : Takes old new source got
   pub answer : AnswerOf old new (old.held ++ got) result
 
 -- the answer by a line of this number; one without words is the last
-abbrev pub answer_for : Line → ℕ → Next
-answer_for line.Blank number = next.End
-answer_for (line.Item words) number = next.Item words
-answer_for line.BadWord number = next.BadWord number
-answer_for (line.WrongCount had) number = next.WrongCount number had
-answer_for line.OutOfRange number = next.OutOfRange number
+abbrev pub answer_for : LineContent → ℕ → Answer
+answer_for line.Blank number = Err ending.End
+answer_for (line.Item words) number = Ok words
+answer_for line.BadWord number = Err (ending.BadWord number)
+answer_for (line.WrongCount had) number = Err (ending.WrongCount number had)
+answer_for line.OutOfRange number = Err (ending.OutOfRange number)
 
 -- only a fault of reading raises the count of the source
-abbrev pub NextCause : Result Next NoMemory → ℕ → ℕ → Type 0
-NextCause (Ok next.ReadFault) before now = Rose before now
-NextCause _ before now = now ≡ before
+abbrev pub NextCause : Result Answer NoMemory → (source : Change (List ℕ)) → Type 0
+NextCause result source = GivenCause (closed_by result) source
 
 -- the same of one request
-abbrev pub TakeCause : Result (Result (Unit {0}) Failed) NoMemory → ℕ → ℕ → Type 0
-TakeCause (Ok (Err failed)) before now = Rose before now
-TakeCause _ before now = now ≡ before
+abbrev pub TakeCause : Result (Result (Unit {0}) Failed) NoMemory → (source : Change (List ℕ)) → Type 0
+TakeCause (Ok (Err failed)) source = HasRisen source
+TakeCause _ source = HasSameFaults source

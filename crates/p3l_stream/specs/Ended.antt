@@ -1,16 +1,16 @@
 -- Lines as bytes have them, each ended by a line feed.
 use Rattle.std.specs.Prelude.{◌≡◌, ◌≢◌, ℕ, List, [], ◌∷◌, ◌++◌, None, position}
 use Rattle.std.specs.Str.Lines.{strip_carriage_return}
-use Rattle.p3l_stream.specs.declared.line.Line.{Line}
-use Rattle.p3l_stream.specs.declared.line.Line.TheVariants as line
+use Rattle.p3l_stream.specs.declared.line.LineContent.{LineContent}
+use Rattle.p3l_stream.specs.declared.line.LineContent.TheVariants as line
 use Rattle.p3l_stream.specs.Lines.{is_feed, line_of}
 
 -- no byte of a line is a line feed
 abbrev pub IsLine : List ℕ → Type 0
 IsLine bytes = position is_feed bytes ≡ None
 
--- what a line holds, which may have a carriage return before its end
-abbrev pub held_by : ℕ → List ℕ → Line
+-- the content of a line, which may have a carriage return before its end
+abbrev pub held_by : ℕ → List ℕ → LineContent
 held_by width bytes = line_of width (strip_carriage_return bytes)
 
 -- lines, each ended by a line feed

@@ -1,18 +1,16 @@
--- What a stream has answered of the bytes that it took.
+-- The items that a stream has answered of the bytes that it took.
 use Rattle.std.specs.Prelude.{◌≡◌, ℕ, ℤ, ◌+◌, ◌<◌, ◌≤◌, Bool, true, false, List, [], ◌∷◌, ◌++◌, length, Option, Some, None, Result, Ok, Err}
 use Rattle.std.specs.List.{AllByRecursion}
 use Rattle.p3l_base.specs.declared.NoMemory.{NoMemory}
-use Rattle.p3l_io.specs.Causes.{Rose}
+use Rattle.p3l_io.specs.Change.{Change, HasRisen, HasSameFaults}
 use Rattle.p3l_stream.specs.declared.items.Ending.{Ending}
 use Rattle.p3l_stream.specs.declared.items.Ending.TheVariants as ending
 use Rattle.p3l_stream.specs.declared.items.Items.{Items}
-use Rattle.p3l_stream.specs.declared.next.Next.{Next}
-use Rattle.p3l_stream.specs.declared.next.Next.TheVariants as next
 use Rattle.p3l_stream.specs.declared.taken.Cutoff.{Cutoff}
 use Rattle.p3l_stream.specs.declared.taken.Cutoff.TheVariants as stop
 use Rattle.p3l_stream.specs.Items.{closing, items_of_lines, items_taken}
 use Rattle.p3l_stream.specs.Lines.{lines_of}
-use Rattle.p3l_stream.specs.Seen.{Seen}
+use Rattle.p3l_stream.specs.Seen.{Answer, Seen}
 
 -- items before those of later lines, whose ending stays
 abbrev pub before_items : List (List ℤ) → Items → Items
@@ -22,7 +20,7 @@ before_items items rest = record rest { items = items ++ rest.items }
 abbrev pub ended_by : List (List ℤ) → Ending → Items
 ended_by items close = record { items = items; ending = close }
 
--- how the input goes on after the bytes taken, and stops: it doesn't where it was at its end
+-- the input goes on so after the bytes taken, and stops; at its end it doesn't go on
 abbrev pub GoesOn : Bool → Cutoff → List ℕ → Type 0
 GoesOn at_end how more = at_end ≡ true → (how ≡ stop.End) × (more ≡ [])
 
@@ -38,7 +36,7 @@ AreFirst width at_end bytes items = TakesOn at_end (λ how more. (later : Items)
 abbrev pub AreRefused : ℕ → Bool → List ℕ → List (List ℤ) → Ending → Type 0
 AreRefused width at_end bytes items close = TakesOn at_end (λ how more. items_taken width how (bytes ++ more) ≡ ended_by items close)
 
--- what ended the stream, or did not
+-- the stream was ended by this, or is open
 abbrev pub Closes : ℕ → Seen → List ℕ → List (List ℤ) → Option (Result Ending NoMemory) → Type 0
 -- nothing: after the items answered come those of the bytes still held
 Closes width s bytes items None =
@@ -66,22 +64,12 @@ pub record HasGiven (width : ℕ) (s : Seen) (bytes : List ℕ) (items : List (L
   pub closes : Closes width s bytes items s.closed
 
 -- the item that an answer is
-abbrev pub items_in : Result Next NoMemory → List (List ℤ)
-items_in (Ok (next.Item words)) = words ∷ []
-items_in answer = []
+abbrev pub items_in : Result Answer NoMemory → List (List ℤ)
+items_in (Ok (Ok words)) = words ∷ []
+items_in (Ok (Err ending)) = []
+items_in (Err e) = []
 
--- the item that an answer is, or the ending
-abbrev pub answered : Next → Result (List ℤ) Ending
-answered (next.Item words) = Ok words
-answered next.End = Err ending.End
-answered (next.BadWord line) = Err (ending.BadWord line)
-answered (next.WrongCount line had) = Err (ending.WrongCount line had)
-answered (next.OutOfRange line) = Err (ending.OutOfRange line)
-answered next.ReadFault = Err ending.ReadFault
-answered next.TooLong = Err ending.TooLong
-
--- how the count of faults of the source goes while a stream is read: only a fault of reading, which
--- ends it, raises the count
-abbrev pub GivenCause : Option (Result Ending NoMemory) → ℕ → ℕ → Type 0
-GivenCause (Some (Ok ending.ReadFault)) before now = Rose before now
-GivenCause closed before now = now ≡ before
+-- while a stream is read, only a fault of reading, which ends it, raises the count of faults of the source
+abbrev pub GivenCause : Option (Result Ending NoMemory) → (source : Change (List ℕ)) → Type 0
+GivenCause (Some (Ok ending.ReadFault)) source = HasRisen source
+GivenCause closed source = HasSameFaults source

@@ -2,15 +2,15 @@
 use Rattle.std.specs.Prelude.{ℕ, ◌+◌, List, [], ◌∷◌}
 use Rattle.p3l_stream.specs.declared.taken.Cutoff.{Cutoff}
 use Rattle.p3l_stream.specs.declared.taken.Cutoff.TheVariants as stop
-use Rattle.p3l_stream.specs.declared.line.Line.{Line}
-use Rattle.p3l_stream.specs.declared.line.Line.TheVariants as line
+use Rattle.p3l_stream.specs.declared.line.LineContent.{LineContent}
+use Rattle.p3l_stream.specs.declared.line.LineContent.TheVariants as line
 use Rattle.p3l_stream.specs.declared.items.Ending.{Ending}
 use Rattle.p3l_stream.specs.declared.items.Ending.TheVariants as ending
 use Rattle.p3l_stream.specs.declared.items.Items.{Items}
 use Rattle.p3l_stream.specs.Lines.{line_of, lines_of}
 
 -- a line before others: its item comes first, and a refused line is the ending
-abbrev pub put_line : Line → ℕ → Items → Items
+abbrev pub put_line : LineContent → ℕ → Items → Items
 put_line line.Blank number rest = rest
 put_line (line.Item words) number rest = record rest { items = words ∷ rest.items }
 put_line line.BadWord number rest = record { items = []; ending = ending.BadWord number }

@@ -5,8 +5,9 @@ pub mod Text
 pub mod Taken
 pub mod Ended
 pub mod Seen
+pub mod Given
 pub mod Answers
 pub mod Part
 pub mod Long
 pub mod Passing
-pub mod Given
+pub mod Next

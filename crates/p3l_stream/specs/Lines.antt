@@ -4,8 +4,8 @@ use Rattle.std.specs.List.{slice_split}
 use Rattle.std.specs.Str.Lines.{strip_carriage_return}
 use Rattle.p3l_stream.specs.declared.taken.Cutoff.{Cutoff}
 use Rattle.p3l_stream.specs.declared.taken.Cutoff.TheVariants as stop
-use Rattle.p3l_stream.specs.declared.line.Line.{Line}
-use Rattle.p3l_stream.specs.declared.line.Line.TheVariants as line
+use Rattle.p3l_stream.specs.declared.line.LineContent.{LineContent}
+use Rattle.p3l_stream.specs.declared.line.LineContent.TheVariants as line
 use Rattle.p3l_stream.specs.declared.word.WordFault.{WordFault}
 use Rattle.p3l_stream.specs.declared.word.WordFault.TheVariants as fault
 use Rattle.p3l_stream.specs.Words.{numbers_of, words_of}
@@ -30,14 +30,14 @@ lines_between how (part ∷ next ∷ parts) = strip_carriage_return part ∷ lin
 abbrev pub lines_of : Cutoff → List ℕ → List (List ℕ)
 lines_of how bytes = lines_between how (slice_split is_feed bytes)
 
--- what a line holds whose words write these numbers, where an item has n words
-abbrev pub line_from : ℕ → Result (List ℤ) WordFault → Line
+-- the content of a line whose words write these numbers, where an item has n words
+abbrev pub line_from : ℕ → Result (List ℤ) WordFault → LineContent
 line_from width (Err fault.Form) = line.BadWord
 line_from width (Err fault.Range) = line.OutOfRange
 line_from width (Ok []) = line.Blank
 line_from width (Ok (number ∷ numbers)) =
     if length (number ∷ numbers) == width then line.Item (number ∷ numbers) else line.WrongCount (length (number ∷ numbers))
 
--- what a line holds
-abbrev pub line_of : ℕ → List ℕ → Line
+-- the content of a line
+abbrev pub line_of : ℕ → List ℕ → LineContent
 line_of width bytes = line_from width (numbers_of (words_of bytes))

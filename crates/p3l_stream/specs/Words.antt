@@ -36,7 +36,7 @@ digits_of word = if starts_with_minus word then drop 1 word else word
 abbrev pub is_numeral : List ℕ → Bool
 is_numeral word = is_filled (digits_of word) && list_all is_ascii_digit (digits_of word)
 
--- what the digits of a word write
+-- the number that the digits of a word write
 abbrev pub magnitude : List ℕ → ℕ
 magnitude word = digits_value 10 (digits_of word)
 

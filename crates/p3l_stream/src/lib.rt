@@ -16,7 +16,7 @@ pub mod text;
 pub mod word;
 
 pub use items::{Ending, Items};
-pub use line::Line;
+pub use line::LineContent;
 pub use lines::Lines;
 pub use next::Next;
 pub use taken::Cutoff;

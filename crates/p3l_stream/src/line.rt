@@ -13,7 +13,7 @@ use std::alloc::Global;
 
 /// The content of a line.
 #[derive(Debug, Drop)]
-pub enum Line {
+pub enum LineContent {
     /// No words.
     Blank,
     /// As many numbers as an item has words.
@@ -58,26 +58,26 @@ pub(crate) fn without_return(line: &[u8]) -> &[u8]
 }
 
 /// The content of a line, where an item has `width` words.
-pub(crate) fn read_line(alloc: Global, bytes: &[u8], width: u32) -> Result<Line, NoMemory>
+pub(crate) fn read_line(alloc: Global, bytes: &[u8], width: u32) -> Result<LineContent, NoMemory>
     ensures { IfGiven result (λ read. read ≡ line_of width bytes.now) }
 {
     match read_numbers(alloc, bytes)? {
         Ok(numbers) => Ok(counted(numbers, width)),
-        Err(WordFault::Form) => Ok(Line::BadWord),
-        Err(WordFault::Range) => Ok(Line::OutOfRange),
+        Err(WordFault::Form) => Ok(LineContent::BadWord),
+        Err(WordFault::Range) => Ok(LineContent::OutOfRange),
     }
 }
 
 /// The content of a line of these numbers.
-fn counted(numbers: Words, width: u32) -> Line
+fn counted(numbers: Words, width: u32) -> LineContent
     ensures { result ≡ line_from width (Ok numbers) }
 {
     let had = numbers.len() as u64;
     if had == 0 {
-        return Line::Blank;
+        return LineContent::Blank;
     }
     if had == u64::from(width) {
-        return Line::Item(numbers);
+        return LineContent::Item(numbers);
     }
-    Line::WrongCount(had)
+    LineContent::WrongCount(had)
 }

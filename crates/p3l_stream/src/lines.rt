@@ -2,19 +2,21 @@
 
 ghost use Rattle.std.specs.Prelude.{◌≡◌, ◌+◌, ◌^◌, ◌≤◌, ◌<◌, ◌↔◌, ◌⊎◌, ℕ, List, [], ◌++◌, ◌||◌, if◌then◌else◌, None, Some, Ok, Result, true, false, length, take, drop, position, IfOk, IfSome, IsTrue, OnErr, OnSome};
 ghost use Rattle.p3l_base.specs.Memory.{IfGiven, OnGiven, Refused};
+ghost use Rattle.p3l_io.specs.Change.{change};
 ghost use Rattle.p3l_stream.specs.Answers.{Answers, NextCause, TakeCause};
 ghost use Rattle.p3l_stream.specs.Ended.{HasLine, IsLine};
 ghost use Rattle.p3l_stream.specs.Lines.{is_feed};
+ghost use Rattle.p3l_stream.specs.Next.{answer_in, answered};
 ghost use Rattle.p3l_stream.specs.Part.{FitsIn, StandsFor, behind, is_faulty};
 ghost use Rattle.p3l_stream.specs.Passing.{MayEndLine, MayPassFilled, MayPassLine, MayPassRead, OnlyPasses, PassesLast, RequestsOnce, moved_past};
-ghost use Rattle.p3l_stream.specs.Seen.{Seen, answer_of, closed_by, item_count, most_items, started};
+ghost use Rattle.p3l_stream.specs.Seen.{Seen, answer_of, closed_by, ending_in, item_count, most_items, started};
 ghost use Rattle.p3l_stream.specs.Words.{is_filled, number_of};
 
 use crate::buffer::Buffer;
 use crate::items::Ending;
-use crate::line::{Line, plain_line, read_line, without_return};
+use crate::line::{LineContent, plain_line, read_line, without_return};
 use crate::long::{NINES, Shortening, how_to_shorten, last_blank};
-use crate::next::{Next, answer_for, ending_of, next_of};
+use crate::next::{Answer, Next, answer_for, next_of};
 use crate::numeral::Numeral;
 use crate::part::Part;
 use p3l_base::{NoMemory, Words};
@@ -78,15 +80,15 @@ impl Lines {
     /// The item of the next line that has words, or how the stream ends. It then ends so at each
     /// later call too, also out of memory.
     pub fn next<S: Source>(&mut self, source: &mut S) -> Result<Next, NoMemory>
-        ensures answers { self.old.closed ≡ None
-            → Answers self.old self.new (S.rest source.old) (S.rest source.new) result }
-        ensures cause { self.old.closed ≡ None
-            → NextCause result (S.faults source.old) (S.faults source.new) }
-        ensures closed { self.old.closed ≡ None → self.new.closed ≡ closed_by result }
+        ensures answers { self.old.closed ≡ None → Answers self.old self.new
+            (change (S.observed source.old) (S.observed source.new)) (answer_in result) }
+        ensures cause { self.old.closed ≡ None → NextCause (answer_in result)
+            (change (S.observed source.old) (S.observed source.new)) }
+        ensures closed { self.old.closed ≡ None → self.new.closed ≡ closed_by (answer_in result) }
 
-        // What was answered once is answered again.
+        // Once ended, every later call returns the same ending.
         ensures again { (close : Result Ending NoMemory) → self.old.closed ≡ Some close
-            → result ≡ answer_of close }
+            → answer_in result ≡ answer_of close }
         ensures same { (close : Result Ending NoMemory) → self.old.closed ≡ Some close
             → (self.new ≡ self.old) × (source.new ≡ source.old) }
 
@@ -95,46 +97,56 @@ impl Lines {
         ensures ready { HasLine self.old.words self.old.held → source.new ≡ source.old }
         ensures at_end { self.old.at_end ≡ true → source.new ≡ source.old }
 
-        // What stays to be answered is less than a piece, and the items are at most half the limit and one.
+        // The bytes not yet answered are less than a piece, and the items are at most half the
+        // limit and one.
         ensures refused { self.old.closed ≡ None → OnErr result Refused }
-        ensures few { IfOk result (λ next. item_count next ≡ 1
+        ensures few { IfOk result (λ next. item_count (answered next) ≡ 1
             → (length self.new.held < 4096) ⊎ (source.new ≡ source.old)) }
-        ensures items { IfOk result (λ next. item_count next + most_items self.new
+        ensures items { IfOk result (λ next. item_count (answered next) + most_items self.new
             ≤ most_items self.old) }
     {
         match self.closed {
-            Some(Ok(ending)) => Ok(next_of(ending)),
+            Some(Ok(ending)) => Ok(next_of(Err(ending))),
             Some(Err(want)) => Err(want),
             None => {
                 let answer = self.answer(source);
                 self.close(&answer);
-                answer
+                Ok(next_of(answer?))
             }
         }
     }
 
+    /// The ending of a stream that ended, unless memory ran out.
+    pub fn ending(&self) -> Option<Ending>
+        ensures { result ≡ ending_in self.now.closed }
+    {
+        match self.closed {
+            Some(Ok(ending)) => Some(ending),
+            _ => None,
+        }
+    }
+
     /// Notes what ends the stream.
-    fn close(&mut self, answer: &Result<Next, NoMemory>)
+    fn close(&mut self, answer: &Result<Answer, NoMemory>)
         ensures { self.new ≡ record self.old { closed = closed_by answer.now } }
     {
         self.closed = match answer {
-            Ok(next) => match ending_of(next) {
-                Some(ending) => Some(Ok(ending)),
-                None => None,
-            },
+            Ok(Ok(_)) => None,
+            Ok(Err(ending)) => Some(Ok(*ending)),
             Err(want) => Some(Err(*want)),
         };
     }
 
     /// Answers by the lines at hand, and else by those that the source gives.
-    fn answer<S: Source>(&mut self, source: &mut S) -> Result<Next, NoMemory>
+    fn answer<S: Source>(&mut self, source: &mut S) -> Result<Answer, NoMemory>
         requires within { self.old.taken ≤ self.old.limit }
         requires below { self.old.at_end ≡ true → self.old.taken < self.old.limit }
-        ensures answers { Answers self.old self.new (S.rest source.old) (S.rest source.new) result }
-        ensures cause { NextCause result (S.faults source.old) (S.faults source.new) }
+        ensures answers { Answers self.old self.new
+            (change (S.observed source.old) (S.observed source.new)) result }
+        ensures cause { NextCause result (change (S.observed source.old) (S.observed source.new)) }
         ensures ready { HasLine self.old.words self.old.held → source.new ≡ source.old }
         ensures at_end { self.old.at_end ≡ true → source.new ≡ source.old }
-        ensures few { IfGiven result (λ next. item_count next ≡ 1
+        ensures few { IfGiven result (λ answer. item_count answer ≡ 1
             → (length self.new.held < 4096) ⊎ (source.new ≡ source.old)) }
     {
         match self.pass_blanks()? {
@@ -144,20 +156,22 @@ impl Lines {
     }
 
     /// Takes pieces up to the next line that has words, where none is ended at hand.
-    fn read_on<S: Source>(&mut self, source: &mut S) -> Result<Next, NoMemory>
+    fn read_on<S: Source>(&mut self, source: &mut S) -> Result<Answer, NoMemory>
         requires line { IsLine self.old.held }
         requires within { self.old.taken ≤ self.old.limit }
         requires below { self.old.at_end ≡ true → self.old.taken < self.old.limit }
-        ensures answers { Answers self.old self.new (S.rest source.old) (S.rest source.new) result }
-        ensures cause { NextCause result (S.faults source.old) (S.faults source.new) }
+        ensures answers { Answers self.old self.new
+            (change (S.observed source.old) (S.observed source.new)) result }
+        ensures cause { NextCause result (change (S.observed source.old) (S.observed source.new)) }
         ensures at_end { self.old.at_end ≡ true → source.new ≡ source.old }
-        ensures few { IfGiven result (λ next. item_count next ≡ 1 → length self.new.held < 4096) }
+        ensures few { IfGiven result (λ answer. item_count answer ≡ 1
+            → length self.new.held < 4096) }
     {
         let mut part = Part::new(self.alloc, self.words);
         while !self.at_end && self.taken < self.limit {
             if self.take_piece(source)?.is_err() {
                 self.held.clear();
-                return Ok(Next::ReadFault);
+                return Ok(Err(Ending::ReadFault));
             }
             if let Some(line) = self.pass_read(&mut part)? {
                 return Ok(answer_for(line, self.passed));
@@ -171,7 +185,7 @@ impl Lines {
             return Ok(answer_for(line, self.passed));
         }
         self.held.clear();
-        Ok(Next::TooLong)
+        Ok(Err(Ending::TooLong))
     }
 
     /// Takes the next bytes of the source, or learns that it is at its end.
@@ -179,8 +193,9 @@ impl Lines {
         requires open { self.old.at_end ≡ false }
         requires room { self.old.taken < self.old.limit }
         ensures refused { OnErr result Refused }
-        ensures requests { RequestsOnce self.old self.new (S.rest source.old) (S.rest source.new) result }
-        ensures cause { TakeCause result (S.faults source.old) (S.faults source.new) }
+        ensures requests { RequestsOnce self.old self.new
+            (change (S.observed source.old) (S.observed source.new)) result }
+        ensures cause { TakeCause result (change (S.observed source.old) (S.observed source.new)) }
     {
         let mut piece = [0u8; PIECE];
         let room = (self.limit - self.taken).min(PIECE as u64) as usize;
@@ -198,8 +213,9 @@ impl Lines {
         requires short { length buf.old ≤ 4096 }
         requires room { self.old.taken + length buf.old ≤ self.old.limit }
         ensures refused { OnErr result Refused }
-        ensures requests { RequestsOnce self.old self.new (S.rest source.old) (S.rest source.new) result }
-        ensures cause { TakeCause result (S.faults source.old) (S.faults source.new) }
+        ensures requests { RequestsOnce self.old self.new
+            (change (S.observed source.old) (S.observed source.new)) result }
+        ensures cause { TakeCause result (change (S.observed source.old) (S.observed source.new)) }
     {
         match source.take(buf) {
             Err(failed) => Ok(Err(failed)),
@@ -216,7 +232,7 @@ impl Lines {
     }
 
     /// Passes the ended lines without words, and the first that has some, if there is one.
-    fn pass_blanks(&mut self) -> Result<Option<Line>, NoMemory>
+    fn pass_blanks(&mut self) -> Result<Option<LineContent>, NoMemory>
         ensures ok { IfGiven result (MayPassFilled self.old self.new) }
         ensures err { OnErr result (OnlyPasses self.old self.new) }
     {
@@ -229,7 +245,7 @@ impl Lines {
     }
 
     /// Passes the first line, if it is ended, and says what it holds.
-    fn pass_line(&mut self) -> Result<Option<Line>, NoMemory>
+    fn pass_line(&mut self) -> Result<Option<LineContent>, NoMemory>
         ensures ok { IfGiven result (MayPassLine self.old self.new) }
         ensures err { OnErr result (self.new ≡ self.old) }
     {
@@ -238,7 +254,7 @@ impl Lines {
                 let mut words = Words::new(self.alloc);
                 words.push(found.number)?;
                 self.pass_to(found.len);
-                Ok(Some(Line::Item(words)))
+                Ok(Some(LineContent::Item(words)))
             }
             None => self.pass_any_line(),
         }
@@ -270,7 +286,7 @@ impl Lines {
     }
 
     /// Passes the first line, if it is ended, and says what it holds, whatever it is.
-    fn pass_any_line(&mut self) -> Result<Option<Line>, NoMemory>
+    fn pass_any_line(&mut self) -> Result<Option<LineContent>, NoMemory>
         ensures ok { IfGiven result (MayPassLine self.old self.new) }
         ensures err { OnErr result (self.new ≡ self.old) }
     {
@@ -284,7 +300,7 @@ impl Lines {
 
     /// Passes the line that the input's end ends, of which part was read, and says what it holds; no
     /// byte is no line.
-    fn pass_last(&mut self, part: &mut Part) -> Result<Line, NoMemory>
+    fn pass_last(&mut self, part: &mut Part) -> Result<LineContent, NoMemory>
         requires { FitsIn part.old self.old }
         ensures ok { IfGiven result (λ holds. (so_far : List ℕ)
             → StandsFor part.old self.old.held so_far
@@ -310,7 +326,7 @@ impl Lines {
     }
 
     /// Passes the first line, of which part was read, and then as `pass_blanks` does.
-    fn pass_read(&mut self, part: &mut Part) -> Result<Option<Line>, NoMemory>
+    fn pass_read(&mut self, part: &mut Part) -> Result<Option<LineContent>, NoMemory>
         requires { FitsIn part.old self.old }
         ensures ok { IfGiven result (λ passed. (held so_far piece : List ℕ)
             → self.old.held ≡ held ++ piece → StandsFor part.old held so_far
@@ -325,7 +341,7 @@ impl Lines {
     }
 
     /// Passes the first line, if it is ended, of which part was read, and says what it holds.
-    fn end_line(&mut self, part: &mut Part) -> Result<Option<Line>, NoMemory>
+    fn end_line(&mut self, part: &mut Part) -> Result<Option<LineContent>, NoMemory>
         requires { FitsIn part.old self.old }
         ensures ok { IfGiven result (MayEndLine self.old self.new part.old part.new) }
         ensures err { OnErr result (self.new ≡ self.old) }
@@ -431,8 +447,8 @@ impl Lines {
 }
 
 /// Decides whether a line has no words.
-fn is_blank(line: &Line) -> bool
-    ensures { IsTrue result ↔ (line.now ≡ Line.Blank) }
+fn is_blank(line: &LineContent) -> bool
+    ensures { IsTrue result ↔ (line.now ≡ LineContent.Blank) }
 {
-    matches!(line, Line::Blank)
+    matches!(line, LineContent::Blank)
 }

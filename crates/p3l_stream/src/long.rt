@@ -52,7 +52,7 @@ fn leading_zeros(digits: &[u8]) -> usize
     count
 }
 
-/// How a word is shortened that isn't ended.
+/// The way to shorten a word that isn't ended.
 pub(crate) fn how_to_shorten(word: &[u8]) -> Shortening
     ensures { CanShorten word.now result }
 {

@@ -1,12 +1,11 @@
-// What the stream answers, item by item.
+// Answers of the stream, item by item.
 
 ghost use Rattle.std.specs.Prelude.{◌≡◌};
 ghost use Rattle.p3l_stream.specs.Answers.{answer_for};
-ghost use Rattle.p3l_stream.specs.Seen.{ending_of, next_of};
-ghost use Rattle.p3l_stream.specs.Given.{answered};
+ghost use Rattle.p3l_stream.specs.Next.{answered, next_of};
 
 use crate::items::Ending;
-use crate::line::Line;
+use crate::line::LineContent;
 use p3l_base::Words;
 
 /// An item of the stream, or how the stream ends. Lines count from 1, those without words too.
@@ -28,6 +27,9 @@ pub enum Next {
     TooLong,
 }
 
+/// An item, or how the stream ends.
+pub(crate) type Answer = Result<Words, Ending>;
+
 impl Next {
     /// The item, or the ending that the answer is.
     pub fn into_item(self) -> Result<Words, Ending>
@@ -45,47 +47,31 @@ impl Next {
     }
 }
 
-/// The answer that is this ending.
-pub(crate) fn next_of(ending: Ending) -> Next
-    ensures { result ≡ next_of ending }
+/// The public answer, of which `into_item` is the inverse.
+pub(crate) fn next_of(answer: Answer) -> Next
+    ensures next { result ≡ next_of answer }
+    ensures inverse { answered result ≡ answer }
 {
-    match ending {
-        Ending::End => Next::End,
-        Ending::BadWord(line) => Next::BadWord(line),
-        Ending::WrongCount { line, had } => Next::WrongCount { line, had },
-        Ending::OutOfRange(line) => Next::OutOfRange(line),
-        Ending::ReadFault => Next::ReadFault,
-        Ending::TooLong => Next::TooLong,
-    }
-}
-
-/// The ending that an answer is, unless it is an item.
-pub(crate) fn ending_of(next: &Next) -> Option<Ending>
-    ensures { result ≡ ending_of next.now }
-{
-    match next {
-        Next::Item(_) => None,
-        Next::End => Some(Ending::End),
-        Next::BadWord(line) => Some(Ending::BadWord(*line)),
-        Next::WrongCount { line, had } => Some(Ending::WrongCount {
-            line: *line,
-            had: *had,
-        }),
-        Next::OutOfRange(line) => Some(Ending::OutOfRange(*line)),
-        Next::ReadFault => Some(Ending::ReadFault),
-        Next::TooLong => Some(Ending::TooLong),
+    match answer {
+        Ok(words) => Next::Item(words),
+        Err(Ending::End) => Next::End,
+        Err(Ending::BadWord(line)) => Next::BadWord(line),
+        Err(Ending::WrongCount { line, had }) => Next::WrongCount { line, had },
+        Err(Ending::OutOfRange(line)) => Next::OutOfRange(line),
+        Err(Ending::ReadFault) => Next::ReadFault,
+        Err(Ending::TooLong) => Next::TooLong,
     }
 }
 
 /// The answer by a line of this number; one without words is the last.
-pub(crate) fn answer_for(line: Line, number: u64) -> Next
+pub(crate) fn answer_for(line: LineContent, number: u64) -> Answer
     ensures { result ≡ answer_for line number }
 {
     match line {
-        Line::Blank => Next::End,
-        Line::Item(words) => Next::Item(words),
-        Line::BadWord => Next::BadWord(number),
-        Line::WrongCount(had) => Next::WrongCount { line: number, had },
-        Line::OutOfRange => Next::OutOfRange(number),
+        LineContent::Blank => Err(Ending::End),
+        LineContent::Item(words) => Ok(words),
+        LineContent::BadWord => Err(Ending::BadWord(number)),
+        LineContent::WrongCount(had) => Err(Ending::WrongCount { line: number, had }),
+        LineContent::OutOfRange => Err(Ending::OutOfRange(number)),
     }
 }

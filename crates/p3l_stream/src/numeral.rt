@@ -16,7 +16,7 @@ pub(crate) struct Numeral {
     pub(crate) len: usize,
 }
 
-/// How many digits come first, of which 18 are read at most, and the number that they write.
+/// The count of digits that come first, of which 18 are read at most, and the number they write.
 fn front_digits(bytes: &[u8]) -> (usize, u64)
     ensures within { result.0 ≤ length bytes.now }
     ensures digits { list_all is_ascii_digit (take result.0 bytes.now) ≡ true }

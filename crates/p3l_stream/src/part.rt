@@ -6,7 +6,7 @@ ghost use Rattle.p3l_stream.specs.declared.word.WordFault.{WordFault};
 ghost use Rattle.p3l_stream.specs.Part.{is_faulty, line_after, no_part, put_all};
 ghost use Rattle.p3l_stream.specs.Words.{numbers_of, put_number, words_of};
 
-use crate::line::Line;
+use crate::line::LineContent;
 use crate::word::{WordFault, next_number};
 use p3l_base::{NoMemory, Words};
 use std::alloc::Global;
@@ -123,7 +123,7 @@ impl Part {
 
     /// Ends the line after the words that were read, and says what it holds. Then no words are read of
     /// the next one.
-    pub(crate) fn end(&mut self) -> Line
+    pub(crate) fn end(&mut self) -> LineContent
         ensures holds { result ≡ line_after self.old (Ok []) }
         ensures empty { self.new ≡ no_part self.old.width }
     {
@@ -131,15 +131,15 @@ impl Part {
     }
 
     /// The line of the words that were read.
-    fn into_line(self) -> Line
+    fn into_line(self) -> LineContent
         ensures { result ≡ line_after self (Ok []) }
     {
         match self.fault {
-            Some(WordFault::Form) => Line::BadWord,
-            Some(WordFault::Range) => Line::OutOfRange,
-            None if self.count == 0 => Line::Blank,
-            None if self.count == u64::from(self.width) => Line::Item(self.numbers),
-            None => Line::WrongCount(self.count),
+            Some(WordFault::Form) => LineContent::BadWord,
+            Some(WordFault::Range) => LineContent::OutOfRange,
+            None if self.count == 0 => LineContent::Blank,
+            None if self.count == u64::from(self.width) => LineContent::Item(self.numbers),
+            None => LineContent::WrongCount(self.count),
         }
     }
 }

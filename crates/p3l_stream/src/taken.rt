@@ -1,6 +1,6 @@
-// How the taking of bytes stops.
+// Ends of the taking of bytes.
 
-/// How the taking of bytes stopped, of which definitions speak.
+/// The cause that stopped the taking of bytes, of which definitions speak.
 #[derive(Clone, Copy, Debug, Drop, PartialEq, Eq)]
 pub enum Cutoff {
     /// The source was at its end.

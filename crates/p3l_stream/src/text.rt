@@ -9,8 +9,8 @@ use smallvec::SmallVec;
 use std::alloc::Global;
 use std::marker::Model;
 
-/// How many bytes the longest word takes with what separates it: a minus sign, nineteen digits, and
-/// a space or the line feed.
+/// The count of bytes of the longest word with its separator: a minus sign, nineteen digits, and a
+/// space or the line feed.
 const LONGEST_WORD: usize = 21;
 
 /// The count of bytes that lie in the value itself: the longest four words'. More take memory.

@@ -2,7 +2,7 @@
 use Rattle.std.proofs.Common.{◌≡◌, ◌≢◌, ℕ, zero, suc, ◌+◌, ◌-◌, ◌<◌, ◌≤◌, Option, Some, None, is_some, true, false, List, [], ◌∷◌, ◌++◌, map, take, drop, length, get_or, set, replicate, refl, sym, ap, ap₂, ◌∙◌, subst, arith, inl, inr, append-nil, length-append}
 use Rattle.std.proofs.lemmas.Bool.{cases_Bool, cases_eq, cond-true, cond-false, false≢true}
 use Rattle.std.proofs.lemmas.List.{map-append, length-map, length-set, get_or-set_same, get_or-set_other, get_or_default}
-use Rattle.p3l_firing.specs.Token.{newest_tag, peeled}
+use Rattle.p3l_firing.specs.Token.{newest_tag, untagged}
 use Rattle.p3l_firing.specs.declared.token.Token.{Token}
 use Rattle.p3l_template.specs.Bag.{look, read, numbered, IsNumbered}
 use Rattle.p3l_template.specs.laws.BagLaw.{look_append, look_here, look_there, look_empty, numbered_to, numbered_from}
@@ -10,7 +10,7 @@ use Rattle.p3l_template.specs.Finding.{bare, bares}
 use Rattle.p3l_template.specs.Numbered.{AreSlotted, listed, ordered}
 use Rattle.p3l_template.specs.laws.BareLaw.{bares-length}
 
--- how often a token's own number stands there
+-- a token counts once for its own number
 own_count : (xs : List Token) (x : Token) (rest : List Token) (k : ℕ) → newest_tag x ≡ k →
     length (look k (xs ++ x ∷ rest)) ≡ length (look k xs) + suc (length (look k rest))
 own_count xs x rest k e =
@@ -59,7 +59,7 @@ look_miss k x e = look_there k x [] e ∙ look_empty k
 
 -- a token more in a free slot
 pub slot_filled : (xs : List Token) (x y : Token) (c k : ℕ) (slots : List (Option Token)) (o : Option Token) →
-    k ≡ newest_tag x → c ≤ k → k - c < length slots → o ≡ get_or slots (k - c) o → is_some o ≡ false → y ≡ bare (peeled x) →
+    k ≡ newest_tag x → c ≤ k → k - c < length slots → o ≡ get_or slots (k - c) o → is_some o ≡ false → y ≡ bare (untagged x) →
     AreSlotted c slots xs → AreSlotted c (set slots (k - c) (Some y)) (xs ++ x ∷ [])
 unfolding listed
 slot_filled xs x y c k slots o is from below here free same are = record {
@@ -82,7 +82,7 @@ slot_filled xs x y c k slots o is from below here free same are = record {
               ap (λ n. listed (get_or (set slots (k - c) (Some y)) n None)) e
               ∙ ap listed (get_or-set_same slots (k - c) (Some y) None below)
               ∙ ap (λ z. z ∷ []) same
-              ∙ ap bares (sym (look_here (c + j) x [] up ∙ ap (λ z. peeled x ∷ z) (look_empty (c + j))))
+              ∙ ap bares (sym (look_here (c + j) x [] up ∙ ap (λ z. untagged x ∷ z) (look_empty (c + j))))
               ∙ ap (λ z. z ++ bares (look (c + j) (x ∷ []))) (sym none)
               ∙ sym (map-append bare (look (c + j) xs) (look (c + j) (x ∷ [])))
               ∙ ap bares (sym (look_append (c + j) xs (x ∷ [])))

@@ -1,12 +1,12 @@
 -- Numbered tokens in any order, read in the order of their numbers. A token's number is its newest tag.
 use Rattle.std.specs.Prelude.{◌≡◌, ℕ, zero, suc, ◌+◌, ◌≤◌, ◌<◌, Bool, true, ◌&&◌, cond, nat_eq, nat_le, nat_lt, List, [], ◌∷◌, ◌++◌, length}
-use Rattle.p3l_firing.specs.Token.{newest_tag, peeled}
+use Rattle.p3l_firing.specs.Token.{newest_tag, untagged}
 use Rattle.p3l_firing.specs.declared.token.Token.{Token}
 
 -- the tokens with number k, without it
 unfoldable pub look : ℕ → List Token → List Token
 look k [] = []
-look k (x ∷ xs) = cond (nat_eq (newest_tag x) k) (peeled x ∷ look k xs) (look k xs)
+look k (x ∷ xs) = cond (nat_eq (newest_tag x) k) (untagged x ∷ look k xs) (look k xs)
 
 -- the tokens with the m numbers from c on, in the order of the numbers, without them
 unfoldable pub read : List Token → ℕ → ℕ → List Token

@@ -7,7 +7,7 @@ use Rattle.p3l_firing.specs.declared.token.Token.{Token}
 use Rattle.p3l_firing.specs.State.{State}
 use Rattle.p3l_template.specs.Part.{Part}
 use Rattle.p3l_template.specs.Placed.{proc_end, chan_end}
-use Rattle.p3l_template.specs.Shape.{Shape, Role, Base, empty_chan, numbers_from, fan_seats}
+use Rattle.p3l_template.specs.Shape.{Blueprint, Role, Base, empty_chan, numbers_from, fan_slots}
 use Rattle.p3l_template.specs.Units.{Units}
 
 -- the first process reads what comes in, and writes the in channels of the n workers
@@ -23,7 +23,7 @@ last_proc kind node n base =
 abbrev pub fan_procs : ProcKind → ProcKind → ℕ → ℕ → Base → List Proc
 fan_procs first last node n base = first_proc first node n base ∷ (last_proc last node n base ∷ [])
 
--- what a node makes of its workers: its meaning and its firings, and what its part says of a state
+-- the node of a skeleton with workers: its meaning and its firings, and its part's view of a state
 pub record Fanned : Type 0 where
   pub meaning : Units → (ℕ → Role) → Outcome → Outcome
   pub firings : Units → (ℕ → Role) → ℕ
@@ -49,14 +49,14 @@ fan_part n fanned units roles base parts =
     }
 
 -- the shape with these two processes and n workers
-abbrev pub fan_shape : ProcKind → ProcKind → (node n : ℕ) → Fanned → Shape
+abbrev pub fan_shape : ProcKind → ProcKind → (node n : ℕ) → Fanned → Blueprint
 fan_shape first last node n fanned =
     record {
       procs = fan_procs first last node n;
       chans = λ base. n + n;
       laid = λ cap base. replicate (n + n) (empty_chan cap);
       inner = n;
-      seats = λ base. fan_seats base.chan (base.chan + n) n;
+      slots = λ base. fan_slots base.chan (base.chan + n) n;
       meaning = fanned.meaning;
       firings = fanned.firings;
       part = fan_part n fanned;

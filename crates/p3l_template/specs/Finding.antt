@@ -1,4 +1,4 @@
--- What is found in a part of a net: all that the parts around it look at, but for the outcomes.
+-- Findings about parts of a net: whether the part is orderly, and its pending tokens without their outcomes.
 use Rattle.std.specs.Prelude.{◌≡◌, ◌+◌, length, ℕ, Bool, ◌&&◌, Option, Some, None, cond, List, [], ◌∷◌, ◌++◌, map}
 use Rattle.p3l_base.specs.declared.outcome.Outcome.TheVariants.{Value}
 use Rattle.p3l_skel.specs.declared.tree.Tree.{Tree}
@@ -6,10 +6,10 @@ use Rattle.p3l_firing.specs.declared.token.Token.{Token}
 use Rattle.p3l_firing.specs.State.{State}
 use Rattle.p3l_template.specs.Part.{Part, all_orderly}
 use Rattle.p3l_template.specs.Placed.{proc_end, chan_end}
-use Rattle.p3l_template.specs.Shape.{Base, Role, Seat, Shape}
+use Rattle.p3l_template.specs.Shape.{Base, Role, Slot, Blueprint}
 use Rattle.p3l_template.specs.Units.{Units}
 
--- whether a part is orderly, and the tokens pending in it, without their outcomes
+-- a part's order and pending tokens: true if it is orderly, and the tokens without their outcomes
 pub record Finding : Type 0 where
   pub orderly : Bool
   pub pending : List Token
@@ -28,7 +28,7 @@ pending_of s P = bares (P.pending s)
 abbrev pub finding_of : State → Part → Finding
 finding_of s P = record { orderly = P.orderly s; pending = pending_of s P }
 
--- what is pending, where the part is orderly
+-- the pending tokens, if the part is orderly
 unfoldable pub if_orderly : Finding → Option (List Token)
 if_orderly f = cond f.orderly (Some f.pending) None
 
@@ -36,35 +36,35 @@ if_orderly f = cond f.orderly (Some f.pending) None
 abbrev pub line_of : State → (input output : ℕ) → List Token → List Token
 line_of s input output pending = bares (s.tokens output) ++ (bares pending ++ bares (s.tokens input))
 
--- the parts stand at these seats
-unfoldable pub AreSeated : List Seat → List Part → Type 0
-AreSeated [] [] = Unit {0}
-AreSeated (x ∷ xs) (P ∷ Ps) = ((P.input ≡ x.input) × (P.output ≡ x.output)) × AreSeated xs Ps
-AreSeated [] (P ∷ Ps) = ⊥
-AreSeated (x ∷ xs) [] = ⊥
+-- the parts stand at these slots
+unfoldable pub AreSlots : List Slot → List Part → Type 0
+AreSlots [] [] = Unit {0}
+AreSlots (x ∷ xs) (P ∷ Ps) = ((P.input ≡ x.input) × (P.output ≡ x.output)) × AreSlots xs Ps
+AreSlots [] (P ∷ Ps) = ⊥
+AreSlots (x ∷ xs) [] = ⊥
 
--- where a template's part stands, and where it ends
-pub record EndsAt (shape : Shape) (base : Base) (parts : List Part) (P : Part) : Type 0 where
+-- a template's part stands between the base's two channels, and ends after its inner parts
+pub record EndsAt (shape : Blueprint) (base : Base) (parts : List Part) (P : Part) : Type 0 where
   pub input : P.input ≡ base.input
   pub output : P.output ≡ base.output
   pub proc_to : P.proc_to ≡ proc_end (base.proc + length (shape.procs base)) parts
   pub chan_to : P.chan_to ≡ chan_end (base.chan + shape.chans base) parts
 
--- what a template itself finds of a state, where these tokens are pending in its inner parts
+-- a template's own finding in a state, given the tokens pending in its inner parts
 abbrev pub Finds : Type 0
 Finds = Tree → Base → State → List (List Token) → Finding
 
 -- THE LAW OF WHAT IS FOUND: a template's part is orderly where its inner parts are and the template finds so, and what is
 -- pending in it follows from what is pending in these and from the tags in its own channels and processes: whatever the
 -- units make of words
-pub record IsFoundShape (shape : Shape) (finds : Finds) : Type 0 where
+pub record IsFoundShape (shape : Blueprint) (finds : Finds) : Type 0 where
   pub orderly : (units : Units) (roles : ℕ → Role) (base : Base) (parts : List Part) (s : State) →
-      AreSeated (shape.seats base) parts →
+      AreSlots (shape.slots base) parts →
       (shape.part units roles base parts).orderly s
       ≡ (all_orderly parts s && (finds units.tree base s (map (pending_of s) parts)).orderly)
   pub pending : (units : Units) (roles : ℕ → Role) (base : Base) (parts : List Part) (s : State) →
-      AreSeated (shape.seats base) parts →
+      AreSlots (shape.slots base) parts →
       pending_of s (shape.part units roles base parts) ≡ (finds units.tree base s (map (pending_of s) parts)).pending
-  pub ends : (units : Units) (roles : ℕ → Role) (base : Base) (parts : List Part) → AreSeated (shape.seats base) parts →
+  pub ends : (units : Units) (roles : ℕ → Role) (base : Base) (parts : List Part) → AreSlots (shape.slots base) parts →
       EndsAt shape base parts (shape.part units roles base parts)
   pub laid : (cap : ℕ) (base : Base) → length (shape.laid cap base) ≡ shape.chans base

@@ -3,7 +3,6 @@ pub mod Part
 pub mod Shape
 pub mod Placed
 pub mod Width
-pub mod Snapshot
 pub mod Finding
 pub mod Lines
 pub mod Numbered

@@ -19,13 +19,13 @@ pub record Part : Type 0 where
   pub proc_to : ℕ
   pub chan_from : ℕ
   pub chan_to : ℕ
-  -- what its node makes of an outcome
+  -- the outcome of its node for an outcome
   pub meaning : Outcome → Outcome
   -- the tokens still to leave it, in the order of leaving
   pub pending : State → List Token
-  -- what it keeps at every step
+  -- true exactly if its invariant holds
   pub orderly : State → Bool
-  -- how often it fires for one token, and how often the tokens inside it can still make it fire
+  -- the number of its firings for one token, and of those that the tokens inside it can still cause
   pub firings : ℕ
   pub owed : State → ℕ
 
@@ -68,7 +68,7 @@ pub record IsFresh (net : Net) (P : Part) (s : State) : Type 0 where
   pub tokens : (c : ℕ) → P.chan_from ≤ c → c < P.chan_to → s.tokens c ≡ at_first net c
   pub own : (p : ℕ) → P.proc_from ≤ p → p < P.proc_to → s.own p ≡ fresh
 
--- how a part begins
+-- the part is orderly at first, with nothing pending and nothing owed
 pub record Begins (P : Part) (s : State) : Type 0 where
   pub orderly : P.orderly s ≡ true
   pub pending : P.pending s ≡ []
@@ -79,7 +79,7 @@ pub record IsDrained (P : Part) (s : State) : Type 0 where
   pub input : s.tokens P.input ≡ []
   pub pending : P.pending s ≡ []
 
--- how often the tokens that wait and those inside can still make the part fire
+-- the number of firings that the tokens that wait and those inside can still cause
 unfoldable pub due : Part → State → ℕ
 due P s = P.firings * length (s.tokens P.input) + P.owed s
 
@@ -97,7 +97,7 @@ in_hands s p (suc k) = length (s.own p).held + in_hands s (suc p) k
 unfoldable pub inside : Part → State → ℕ
 inside P s = in_channels s P.chan_from (P.chan_to - P.chan_from) + in_hands s P.proc_from (P.proc_to - P.proc_from)
 
--- what a part owes, and what is pending in it, is bounded by the tokens inside
+-- the tokens inside bound the firings that a part owes, and its pending tokens
 pub record IsSized (P : Part) (s : State) : Type 0 where
   pub owed : P.owed s ≤ P.firings * inside P s
   pub pending : length (P.pending s) ≤ inside P s
@@ -106,7 +106,7 @@ pub record IsSized (P : Part) (s : State) : Type 0 where
 pub record IsLawfulPart (net : Net) (units : Units) (P : Part) : Type 0 where
   pub procs : P.proc_from ≤ P.proc_to
   pub chans : P.chan_from ≤ P.chan_to
-  -- what it says of a state depends on what is inside alone
+  -- its view of a state depends only on its inside
   pub reads : (s t : State) → IsSameInside P s t → IsAlike P s t
   -- it begins orderly, with nothing pending and nothing owed
   pub begins : (s : State) → IsFresh net P s → Begins P s
@@ -122,7 +122,7 @@ pub record IsLawfulPart (net : Net) (units : Units) (P : Part) : Type 0 where
   pub drain : (s : State) → P.orderly s ≡ true → ((p : ℕ) → IsInside P p → can_fire units.tree net s p ≡ false) →
       has_trap s.emitted ≡ false → has_room net s P.output ≡ true → IsDrained P s
 
--- what a number without a part is read as
+-- the default for a number without a part
 unfoldable pub no_part : Part
 no_part =
     record {

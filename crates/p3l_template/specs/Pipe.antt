@@ -7,14 +7,14 @@ use Rattle.p3l_template.specs.Shape.{empty_chan}
 use Rattle.p3l_firing.specs.State.{State}
 use Rattle.p3l_template.specs.Part.{Part, all_orderly}
 use Rattle.p3l_template.specs.Placed.{proc_end, chan_end}
-use Rattle.p3l_template.specs.Shape.{Shape, Role, Base, Seat}
+use Rattle.p3l_template.specs.Shape.{Blueprint, Role, Base, Slot}
 
--- the seats of the stages from v on: from channel x, over the channels from c on, to channel y; k stages follow the first
-unfoldable pub stage_seats : ℕ → ℕ → ℕ → ℕ → ℕ → List Seat
-stage_seats v x c y zero = record { input = x; output = y; part = v } ∷ []
-stage_seats v x c y (suc k) = record { input = x; output = c; part = v } ∷ stage_seats (suc v) c (suc c) y k
+-- the slots of the stages from v on: from channel x, over the channels from c on, to channel y; k stages follow the first
+unfoldable pub stage_slots : ℕ → ℕ → ℕ → ℕ → ℕ → List Slot
+stage_slots v x c y zero = record { input = x; output = y; part = v } ∷ []
+stage_slots v x c y (suc k) = record { input = x; output = c; part = v } ∷ stage_slots (suc v) c (suc c) y k
 
--- what part v and the k parts after it make of an outcome, one after the other
+-- the outcome after part v and the k parts after it, one after the other
 unfoldable pub meaning_from : (ℕ → Role) → ℕ → ℕ → Outcome → Outcome
 meaning_from roles v zero outcome = (roles v).meaning outcome
 meaning_from roles v (suc k) outcome = meaning_from roles (suc v) k ((roles v).meaning outcome)
@@ -24,14 +24,14 @@ unfoldable pub firings_from : (ℕ → Role) → ℕ → ℕ → ℕ
 firings_from roles v zero = (roles v).firings + 0
 firings_from roles v (suc k) = (roles v).firings + firings_from roles (suc v) k
 
--- what the stages owe where b tokens are still to pass the first: of each stage what it owes itself, and its firings for each
+-- the firings that the stages owe if b tokens are still to pass the first: for each stage its own, and its firings for each
 -- token in the channels before it and pending in the stages before it
 unfoldable pub stages_due : State → ℕ → List Part → ℕ
 stages_due s b [] = 0
 stages_due s b (P ∷ Ps) =
     (P.firings * b + P.owed s) + stages_due s (length (s.tokens P.output) + (length (P.pending s) + b)) Ps
 
--- what the stages make of an outcome, one after the other
+-- the outcome after all stages, one after the other
 unfoldable pub through : List Part → Outcome → Outcome
 through [] outcome = outcome
 through (P ∷ Ps) outcome = through Ps (P.meaning outcome)
@@ -67,14 +67,14 @@ pipe_part k base stages =
     }
 
 -- the pipe in which k stages follow the first
-abbrev pub pipe_shape : ℕ → Shape
+abbrev pub pipe_shape : ℕ → Blueprint
 pipe_shape k =
     record {
       procs = λ base. [];
       chans = λ base. k;
       laid = λ cap base. replicate k (empty_chan cap);
       inner = suc k;
-      seats = λ base. stage_seats 0 base.input base.chan base.output k;
+      slots = λ base. stage_slots 0 base.input base.chan base.output k;
       meaning = λ units roles. meaning_from roles 0 k;
       firings = λ units roles. firings_from roles 0 k;
       part = λ units roles. pipe_part k;

@@ -19,7 +19,7 @@ unfoldable pub in_stages : State → ℕ → List (List Token) → List Token
 in_stages s c [] = []
 in_stages s c (p ∷ ps) = after_stages s (bares p) c ps
 
--- what waits in a channel of its own at a stage: nothing at the first one
+-- the tokens that wait in a stage's own channel: none at the first stage
 unfoldable pub waiting : State → ℕ → ℕ → List Token
 waiting s c zero = []
 waiting s c (suc k) = bares (s.tokens (c + k))

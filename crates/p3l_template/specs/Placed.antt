@@ -5,7 +5,7 @@ use Rattle.p3l_firing.specs.declared.net.Net.{Net}
 use Rattle.p3l_firing.specs.declared.process.Proc.{Proc}
 use Rattle.p3l_firing.specs.State.{chan_at, no_chan}
 use Rattle.p3l_template.specs.Part.{Part, IsLawfulPart}
-use Rattle.p3l_template.specs.Shape.{Role, Base, Seat, Shape, no_seat}
+use Rattle.p3l_template.specs.Shape.{Role, Base, Slot, Blueprint, no_slot}
 use Rattle.p3l_template.specs.Units.{Units}
 
 -- these processes are in the net from number p on
@@ -21,22 +21,22 @@ pub record AreLaid (net : Net) (c : ℕ) (chans : List Chan) : Type 0 where
 pub record HaveRoom (net : Net) (c n : ℕ) : Type 0 where
   pub room : (k : ℕ) → c ≤ k → k < c + n → 0 < (chan_at net k).cap
 
--- a lawful part is placed at this seat, from process p and channel c on, and does what the node's
+-- a lawful part is placed at this slot, from process p and channel c on, and does what the node's
 -- part there does
-pub record IsSeated (net : Net) (units : Units) (roles : ℕ → Role) (p c : ℕ) (seat : Seat) (P : Part) : Type 0 where
-  pub input : P.input ≡ seat.input
-  pub output : P.output ≡ seat.output
+pub record IsSlot (net : Net) (units : Units) (roles : ℕ → Role) (p c : ℕ) (slot : Slot) (P : Part) : Type 0 where
+  pub input : P.input ≡ slot.input
+  pub output : P.output ≡ slot.output
   pub proc : P.proc_from ≡ p
   pub chan : P.chan_from ≡ c
-  pub meaning : P.meaning ≡ (roles seat.part).meaning
-  pub firings : P.firings ≡ (roles seat.part).firings
+  pub meaning : P.meaning ≡ (roles slot.part).meaning
+  pub firings : P.firings ≡ (roles slot.part).firings
   pub lawful : IsLawfulPart net units P
 
--- lawful parts are placed at these seats, one after the other
-unfoldable pub AreChained : Net → Units → (ℕ → Role) → ℕ → ℕ → List Seat → List Part → Type 0
+-- lawful parts are placed at these slots, one after the other
+unfoldable pub AreChained : Net → Units → (ℕ → Role) → ℕ → ℕ → List Slot → List Part → Type 0
 AreChained net units roles p c [] [] = Unit {0}
 AreChained net units roles p c (x ∷ xs) (P ∷ Ps) =
-    IsSeated net units roles p c x P × AreChained net units roles P.proc_to P.chan_to xs Ps
+    IsSlot net units roles p c x P × AreChained net units roles P.proc_to P.chan_to xs Ps
 AreChained net units roles p c [] (P ∷ Ps) = ⊥
 AreChained net units roles p c (x ∷ xs) [] = ⊥
 
@@ -58,7 +58,7 @@ pub record IsGoodBase (net : Net) (base : Base) : Type 0 where
   pub room : 0 < (chan_at net base.output).cap
 
 -- the template is placed at the base, round these inner parts
-pub record IsPlaced (net : Net) (units : Units) (roles : ℕ → Role) (shape : Shape) (base : Base) (parts : List Part) :
+pub record IsPlaced (net : Net) (units : Units) (roles : ℕ → Role) (shape : Blueprint) (base : Base) (parts : List Part) :
     Type 0 where
   pub good : IsGoodBase net base
   pub procs : AreStanding net base.proc (shape.procs base)
@@ -67,10 +67,10 @@ pub record IsPlaced (net : Net) (units : Units) (roles : ℕ → Role) (shape : 
   pub pos : 0 < cap
   pub laid : AreLaid net base.chan (shape.laid cap base)
   pub inner : AreChained net units roles (base.proc + length (shape.procs base)) (base.chan + (shape.chans base))
-      (shape.seats base) parts
+      (shape.slots base) parts
 
 -- the part is the template's, and lies from the base to the end of its inner parts
-pub record LiesAt (shape : Shape) (units : Units) (roles : ℕ → Role) (base : Base) (parts : List Part) (P : Part) :
+pub record LiesAt (shape : Blueprint) (units : Units) (roles : ℕ → Role) (base : Base) (parts : List Part) (P : Part) :
     Type 0 where
   pub meaning : P.meaning ≡ shape.meaning units roles
   pub firings : P.firings ≡ shape.firings units roles
@@ -81,27 +81,27 @@ pub record LiesAt (shape : Shape) (units : Units) (roles : ℕ → Role) (base :
   pub proc_to : P.proc_to ≡ proc_end (base.proc + length (shape.procs base)) parts
   pub chan_to : P.chan_to ≡ chan_end (base.chan + (shape.chans base)) parts
 
--- a seat that an inner part may be placed at: between two channels that were given out before the inner parts, the second of
+-- a slot that an inner part may be placed at: between two channels that were given out before the inner parts, the second of
 -- them the template's own or its out channel
-pub record IsGoodSeat (base : Base) (chans : ℕ) (seat : Seat) : Type 0 where
-  pub input : seat.input < base.chan + chans
-  pub output : seat.output < base.chan + chans
-  pub apart : seat.input ≢ seat.output
-  pub out : (seat.output ≡ base.output) ⊎ (base.chan ≤ seat.output)
+pub record IsGoodSlot (base : Base) (chans : ℕ) (slot : Slot) : Type 0 where
+  pub input : slot.input < base.chan + chans
+  pub output : slot.output < base.chan + chans
+  pub apart : slot.input ≢ slot.output
+  pub out : (slot.output ≡ base.output) ⊎ (base.chan ≤ slot.output)
 
 -- THE LAW OF A TEMPLATE: placed round lawful parts, it is a lawful part
-pub record IsLawfulShape (shape : Shape) : Type 0 where
+pub record IsLawfulShape (shape : Blueprint) : Type 0 where
   pub lawful : (net : Net) (units : Units) (roles : ℕ → Role) (base : Base) (parts : List Part) →
       IsPlaced net units roles shape base parts → IsLawfulPart net units (shape.part units roles base parts)
   pub lies : (net : Net) (units : Units) (roles : ℕ → Role) (base : Base) (parts : List Part) →
       IsPlaced net units roles shape base parts → LiesAt shape units roles base parts (shape.part units roles base parts)
-  pub count : (base : Base) → length (shape.seats base) ≡ shape.inner
+  pub count : (base : Base) → length (shape.slots base) ≡ shape.inner
   pub laid : (cap : ℕ) (base : Base) → length (shape.laid cap base) ≡ shape.chans base
   pub rooms : (cap : ℕ) (base : Base) (k : ℕ) → 0 < cap → k < length (shape.laid cap base) →
       0 < (get_or (shape.laid cap base) k no_chan).cap
-  pub seats : (net : Net) (base : Base) → IsGoodBase net base → (v : ℕ) → v < shape.inner →
-      IsGoodSeat base (shape.chans base) (get_or (shape.seats base) v no_seat)
+  pub slots : (net : Net) (base : Base) → IsGoodBase net base → (v : ℕ) → v < shape.inner →
+      IsGoodSlot base (shape.chans base) (get_or (shape.slots base) v no_slot)
 
--- both channels of each seat are below `low`
-unfoldable pub AreBelow : ℕ → List Seat → Type 0
-AreBelow low seats = (v : ℕ) → v < length seats → ((get_or seats v no_seat).input < low) × ((get_or seats v no_seat).output < low)
+-- both channels of each slot are below `low`
+unfoldable pub AreBelow : ℕ → List Slot → Type 0
+AreBelow low slots = (v : ℕ) → v < length slots → ((get_or slots v no_slot).input < low) × ((get_or slots v no_slot).output < low)

@@ -4,7 +4,7 @@ use Rattle.p3l_base.specs.declared.outcome.Outcome.{Outcome}
 use Rattle.p3l_firing.specs.declared.process.Proc.{Proc}
 use Rattle.p3l_firing.specs.declared.process.ProcKind.TheVariants.{Run}
 use Rattle.p3l_template.specs.Part.{Part}
-use Rattle.p3l_template.specs.Shape.{Shape, Base}
+use Rattle.p3l_template.specs.Shape.{Blueprint, Base}
 use Rattle.p3l_template.specs.Units.{outcome_at}
 
 -- the one process
@@ -28,14 +28,14 @@ run_part meaning base =
       owed = λ s. 0;
     }
 
-abbrev pub run_shape : ℕ → Shape
+abbrev pub run_shape : ℕ → Blueprint
 run_shape node =
     record {
       procs = λ base. run_proc node base ∷ [];
       chans = λ base. 0;
       laid = λ cap base. [];
       inner = 0;
-      seats = λ base. [];
+      slots = λ base. [];
       meaning = λ units roles. outcome_at units node;
       firings = λ units roles. 1;
       part = λ units roles base inner. run_part (outcome_at units node) base;

@@ -1,4 +1,4 @@
--- What a template places, over any inner parts.
+-- Shapes of templates: the processes and channels that a template places, over any inner parts.
 use Rattle.std.specs.Prelude.{ℕ, zero, suc, ◌+◌, ◌≤◌, List, [], ◌∷◌, ◌++◌, length}
 use Rattle.p3l_base.specs.declared.outcome.Outcome.{Outcome}
 use Rattle.p3l_firing.specs.declared.net.Chan.{Chan}
@@ -8,12 +8,12 @@ use Rattle.p3l_template.specs.declared.template.Ports.{Ports}
 use Rattle.p3l_template.specs.Part.{Part}
 use Rattle.p3l_template.specs.Units.{Units}
 
--- what a node makes of an outcome, and how often it fires for one token
+-- a node's meaning: its outcome for an outcome, and the number of its firings for one token
 pub record Role : Type 0 where
   pub meaning : Outcome → Outcome
   pub firings : ℕ
 
--- where a template is placed: the two channels that it is between, and its first process and
+-- the place of a template: the two channels that it is between, and its first process and
 -- channel
 pub record Base : Type 0 where
   pub input : ℕ
@@ -21,35 +21,35 @@ pub record Base : Type 0 where
   pub proc : ℕ
   pub chan : ℕ
 
--- where an inner part is placed: the two channels that it is between, and which part of the node it
--- is
-pub record Seat : Type 0 where
+-- the place of an inner part: the two channels that it is between, and its number among the node's
+-- parts
+pub record Slot : Type 0 where
   pub input : ℕ
   pub output : ℕ
   pub part : ℕ
 
--- what a number without a seat is read as
-unfoldable pub no_seat : Seat
-no_seat = record { input = 0; output = 0; part = 0 }
+-- the default for a number without a slot
+unfoldable pub no_slot : Slot
+no_slot = record { input = 0; output = 0; part = 0 }
 
--- the channels of a seat
-abbrev pub ports_of : Seat → Ports
-ports_of seat = record { input = seat.input; output = seat.output }
+-- the channels of a slot
+abbrev pub ports_of : Slot → Ports
+ports_of slot = record { input = slot.input; output = slot.output }
 
-pub record Shape : Type 0 where
+pub record Blueprint : Type 0 where
   -- its own processes, in order
   pub procs : Base → List Proc
-  -- how many channels it adds
+  -- the number of channels that it adds
   pub chans : Base → ℕ
   -- these channels in order, in a net whose channels have this capacity
   pub laid : ℕ → Base → List Chan
-  -- how many inner parts it has
+  -- the number of its inner parts
   pub inner : ℕ
-  -- where its inner parts are placed, in order
-  pub seats : Base → List Seat
-  -- what its node makes of an outcome, where it is known what the node's parts do
+  -- the slots of its inner parts, in order
+  pub slots : Base → List Slot
+  -- the outcome of its node for an outcome, given the meanings of the node's parts
   pub meaning : Units → (ℕ → Role) → Outcome → Outcome
-  -- how often it fires for one token
+  -- the number of its firings for one token
   pub firings : Units → (ℕ → Role) → ℕ
   -- the whole part, over its inner parts
   pub part : Units → (ℕ → Role) → Base → List Part → Part
@@ -58,7 +58,7 @@ pub record Shape : Type 0 where
 abbrev pub base_of : Ports → Net → Base
 base_of at built = record { input = at.input; output = at.output; proc = length built.procs; chan = length built.chans }
 
--- what is built, with these processes and channels after it
+-- the net built so far, with these processes and channels after it
 abbrev pub added : Net → List Proc → List Chan → Net
 added built procs chans = record { procs = built.procs ++ procs; chans = built.chans ++ chans }
 
@@ -67,7 +67,7 @@ abbrev pub HasRoomFor : Net → ℕ → ℕ → Type 0
 HasRoomFor built procs chans = (length built.procs + procs ≤ 1048576) × (length built.chans + chans ≤ 1048576)
 
 -- a template's own processes and channels keep within the limits of a net
-abbrev pub FitsAt : Shape → Base → Type 0
+abbrev pub FitsAt : Blueprint → Base → Type 0
 FitsAt shape base = (base.proc + length (shape.procs base) ≤ 1048576) × (base.chan + shape.chans base ≤ 1048576)
 
 -- a channel that begins empty
@@ -79,7 +79,7 @@ unfoldable pub numbers_from : ℕ → ℕ → List ℕ
 numbers_from c zero = []
 numbers_from c (suc n) = c ∷ numbers_from (suc c) n
 
--- the seats of n workers, whose in channels are those from i on and whose out channels those from o on
-unfoldable pub fan_seats : ℕ → ℕ → ℕ → List Seat
-fan_seats i o zero = []
-fan_seats i o (suc n) = record { input = i; output = o; part = 0 } ∷ fan_seats (suc i) (suc o) n
+-- the slots of n workers, whose in channels are those from i on and whose out channels those from o on
+unfoldable pub fan_slots : ℕ → ℕ → ℕ → List Slot
+fan_slots i o zero = []
+fan_slots i o (suc n) = record { input = i; output = o; part = 0 } ∷ fan_slots (suc i) (suc o) n

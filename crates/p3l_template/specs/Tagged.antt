@@ -1,4 +1,4 @@
--- How many tags a kind of node adds.
+-- The number of tags that each kind of node adds.
 use Rattle.std.specs.Prelude.{◌≡◌, ◌⊎◌, ℕ, ◌+◌, ◌≤◌, List}
 use Rattle.std.specs.List.{AllByRecursion}
 use Rattle.p3l_template.specs.declared.width.Width.{Width}

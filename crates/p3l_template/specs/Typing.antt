@@ -1,4 +1,4 @@
--- What a template must meet for the typing of nets: which words and tags its channels carry, and that its processes fit there.
+-- Conditions on templates for the typing of nets: the words and tags that their channels carry, and that their processes fit there.
 use Rattle.std.specs.Prelude.{◌≡◌, ℕ, ◌+◌, ◌<◌, ◌≤◌, List, ◌∷◌, ◌++◌, map, length, get_or, ⊤}
 use Rattle.std.specs.List.{AllByRecursion}
 use Rattle.p3l_skel.specs.declared.tree.Tree.{Tree}
@@ -12,7 +12,7 @@ use Rattle.p3l_firing.specs.State.{no_chan}
 use Rattle.p3l_firing.specs.Typed.{FitsKind}
 use Rattle.p3l_firing.specs.Widths.{Widths, Carries}
 use Rattle.p3l_firing.specs.kinds.Run.{Takes}
-use Rattle.p3l_template.specs.Shape.{Base, Seat, Shape, no_seat, numbers_from}
+use Rattle.p3l_template.specs.Shape.{Base, Slot, Blueprint, no_slot, numbers_from}
 use Rattle.p3l_template.specs.Width.{no_width}
 use Rattle.p3l_template.specs.declared.width.Width.{Width}
 
@@ -26,30 +26,30 @@ IsInner Source = ⊥
 IsInner Sink = ⊥
 IsInner _ = ⊤
 
--- the channels that the inner parts at these seats read, and those that they write
-abbrev pub seat_ins : List Seat → List ℕ
-seat_ins = map (λ seat. seat.input)
+-- the channels that the inner parts at these slots read, and those that they write
+abbrev pub slot_ins : List Slot → List ℕ
+slot_ins = map (λ slot. slot.input)
 
-abbrev pub seat_outs : List Seat → List ℕ
-seat_outs = map (λ seat. seat.output)
+abbrev pub slot_outs : List Slot → List ℕ
+slot_outs = map (λ slot. slot.output)
 
--- where the template is placed: its port channels carry the words of its node, with t tags, and its
--- own channels what it says
+-- the template is placed: its port channels carry the words of its node, with t tags, and its own
+-- channels carry this row
 pub record StandsTyped (tree : Tree) (node : ℕ) (widths : Widths) (base : Base) (t : ℕ) (row : List Width) : Type 0 where
   pub input : Carries widths base.input (node_at tree node).ins t
   pub output : Carries widths base.output (node_at tree node).outs t
   pub own : Carry widths base.chan row
 
--- an inner part has channels at its seat that carry the words of its node, with t tags
-pub record SeatFits (tree : Tree) (node : ℕ) (widths : Widths) (t : ℕ) (seat : Seat) : Type 0 where
-  pub input : Carries widths seat.input (node_at tree (part_at tree node seat.part)).ins t
-  pub output : Carries widths seat.output (node_at tree (part_at tree node seat.part)).outs t
+-- an inner part has channels at its slot that carry the words of its node, with t tags
+pub record SlotFits (tree : Tree) (node : ℕ) (widths : Widths) (t : ℕ) (slot : Slot) : Type 0 where
+  pub input : Carries widths slot.input (node_at tree (part_at tree node slot.part)).ins t
+  pub output : Carries widths slot.output (node_at tree (part_at tree node slot.part)).outs t
 
 -- THE TYPING LAW OF A TEMPLATE for a node of a tree
-pub record IsTypedShape (tree : Tree) (node : ℕ) (shape : Shape) : Type 0 where
-  -- what its own channels carry, in order, where tokens outside have t tags
+pub record IsTypedShape (tree : Tree) (node : ℕ) (shape : Blueprint) : Type 0 where
+  -- the widths of its own channels, in order, if tokens outside have t tags
   pub widths : ℕ → List Width
-  -- how many tags more the tokens at its inner parts have
+  -- the number of extra tags of the tokens at its inner parts
   pub deeper : ℕ
   pub shallow : deeper ≤ 2
   pub count : (t : ℕ) (base : Base) → length (widths t) ≡ shape.chans base
@@ -61,16 +61,16 @@ pub record IsTypedShape (tree : Tree) (node : ℕ) (shape : Shape) : Type 0 wher
   -- its processes and inner parts read its in channel and its own channels, and write its out channel and its own channels,
   -- each once
   pub reads : (base : Base) (c : ℕ) →
-      times c (all_ins (shape.procs base) ++ seat_ins (shape.seats base))
+      times c (all_ins (shape.procs base) ++ slot_ins (shape.slots base))
       ≡ times c (base.input ∷ numbers_from base.chan (shape.chans base))
   pub writes : (base : Base) (c : ℕ) →
-      times c (all_outs (shape.procs base) ++ seat_outs (shape.seats base))
+      times c (all_outs (shape.procs base) ++ slot_outs (shape.slots base))
       ≡ times c (base.output ∷ numbers_from base.chan (shape.chans base))
   pub inner : (base : Base) → AllByRecursion (λ (q : Proc). IsInner q.kind) (shape.procs base)
   pub procs : (w : Widths) (base : Base) (t : ℕ) → StandsTyped tree node w base t (widths t) →
       AllByRecursion (λ (q : Proc). FitsKind q.kind tree w q) (shape.procs base)
-  pub seats : (w : Widths) (base : Base) (t : ℕ) → StandsTyped tree node w base t (widths t) → (v : ℕ) →
-      v < length (shape.seats base) → SeatFits tree node w (t + deeper) (get_or (shape.seats base) v no_seat)
+  pub slots : (w : Widths) (base : Base) (t : ℕ) → StandsTyped tree node w base t (widths t) → (v : ℕ) →
+      v < length (shape.slots base) → SlotFits tree node w (t + deeper) (get_or (shape.slots base) v no_slot)
 
 -- a node of a tree that is one process
 pub record IsRunNode (tree : Tree) (node : ℕ) : Type 0 where

@@ -8,6 +8,6 @@ pub record Units : Type 0 where
   pub tree : Tree
   pub leaf : ℕ → List ℤ → Outcome
 
--- what a node that is one process makes of an outcome
+-- the outcome of a node that is one process, for an outcome
 abbrev pub outcome_at : Units → ℕ → Outcome → Outcome
 outcome_at units node = outcome_of units.tree units.leaf node

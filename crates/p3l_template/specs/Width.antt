@@ -12,7 +12,7 @@ no_width = record { words = 0; tags = 0 }
 abbrev pub width_at : List Width → ℕ → Width
 width_at row c = slice_index_or row c no_width
 
--- what carries the in words of node k, or its out words, with t tags
+-- the width of a channel for the in words of node k, or for its out words, with t tags
 abbrev pub ins_width : Tree → (k t : ℕ) → Width
 ins_width tree k t = record { words = (node_at tree k).ins; tags = t }
 

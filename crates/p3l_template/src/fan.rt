@@ -4,12 +4,12 @@ ghost use Rattle.std.specs.Prelude.{◌≡◌, ◌+◌, ◌≤◌, IfOk, length,
 ghost use Rattle.p3l_base.specs.Memory.{IfGiven};
 ghost use Rattle.p3l_template.specs.Built.{all_ports};
 ghost use Rattle.p3l_template.specs.Fan.{fan_procs};
-ghost use Rattle.p3l_template.specs.Shape.{Base, base_of, added, HasRoomFor, empty_chan, fan_seats};
+ghost use Rattle.p3l_template.specs.Shape.{Base, base_of, added, HasRoomFor, empty_chan, fan_slots};
 
 use crate::builder::{Builder, one_channel};
-use crate::place::Seat;
+use crate::place::Slot;
 use crate::template::Ports;
-use crate::workers::{worker_ports, worker_seats};
+use crate::workers::{worker_ports, worker_slots};
 use p3l_base::{List, NoMemory};
 use p3l_firing::{Proc, ProcKind};
 use std::alloc::Global;
@@ -42,7 +42,7 @@ impl Fan {
             builder.old))
             (replicate (self.now.workers + self.now.workers) (empty_chan cap))) }
         ensures ports { IfOk result (λ ports. ports
-            ≡ all_ports (fan_seats (base_of at.now builder.old).chan
+            ≡ all_ports (fan_slots (base_of at.now builder.old).chan
             ((base_of at.now builder.old).chan + self.now.workers) self.now.workers)) }
     {
         let from = builder.channel_count() as u32;
@@ -83,12 +83,12 @@ impl Fan {
         self.workers as usize + self.workers as usize
     }
 
-    /// Gives the seats of the workers in order, where the channels are those from `chan` on.
-    pub fn seats(&self, alloc: Global, chan: u32) -> Result<List<Seat>, NoMemory>
+    /// Gives the slots of the workers in order, where the channels are those from `chan` on.
+    pub fn slots(&self, alloc: Global, chan: u32) -> Result<List<Slot>, NoMemory>
         requires { chan + (self.now.workers + self.now.workers) ≤ 1048576 }
-        ensures { IfGiven result (λ seats. seats
-            ≡ fan_seats chan (chan + self.now.workers) self.now.workers) }
+        ensures { IfGiven result (λ slots. slots
+            ≡ fan_slots chan (chan + self.now.workers) self.now.workers) }
     {
-        worker_seats(alloc, chan, self.workers)
+        worker_slots(alloc, chan, self.workers)
     }
 }

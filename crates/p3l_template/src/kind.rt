@@ -3,18 +3,17 @@
 ghost use Rattle.std.specs.Prelude.{◌≡◌, ◌++◌, ◌+◌, ◌<◌, ◌≤◌, ◌^◌, ℕ, Bool, List, length};
 ghost use Rattle.p3l_base.specs.Memory.{IfGiven, OnGiven};
 ghost use Rattle.p3l_skel.specs.declared.tree.Tree.{Tree};
+ghost use Rattle.p3l_firing.specs.Shot.{HaveFewTags, state_of};
 ghost use Rattle.p3l_template.specs.Finding.{Finds, IsFoundShape, if_orderly};
 ghost use Rattle.p3l_template.specs.Shape.{Base, FitsAt};
-ghost use Rattle.p3l_template.specs.Snapshot.{state_of};
 ghost use Rattle.p3l_template.specs.Tagged.{IsTagged};
 ghost use Rattle.p3l_template.specs.declared.width.Width.{Width};
 
-use crate::place::{Place, Seat};
-use crate::snapshot::Snapshot;
+use crate::place::{Site, Slot};
 use crate::template::Template;
 use crate::width::Width;
 use p3l_base::{List, NoMemory};
-use p3l_firing::Token;
+use p3l_firing::{Shot, Token};
 use p3l_skel::Tree;
 use std::alloc::Global;
 
@@ -44,10 +43,10 @@ pub trait Kind: Template {
         ensures { (base : Base) → (Self.shape self.now).chans base ≡ result };
 
     /// Gives the places of its inner parts in order.
-    fn seats(&self, alloc: Global, place: &Place) -> Result<List<Seat>, NoMemory>
+    fn slots(&self, alloc: Global, place: &Site) -> Result<List<Slot>, NoMemory>
         requires fit { Self.is_fit self.now }
         requires room { FitsAt (Self.shape self.now) place.now }
-        ensures { IfGiven result (λ seats. seats ≡ (Self.shape self.now).seats place.now) };
+        ensures { IfGiven result (λ slots. slots ≡ (Self.shape self.now).slots place.now) };
 
     /// Puts the widths of its own channels behind others.
     fn push_widths(
@@ -76,15 +75,16 @@ pub trait Kind: Template {
         &self,
         alloc: Global,
         tree: &Tree,
-        snapshot: &Snapshot,
-        place: &Place,
+        shot: &Shot,
+        place: &Site,
         inner: &[List<Token>],
     ) -> Result<Option<List<Token>>, NoMemory>
         requires fit { Self.is_fit self.now }
         requires inner { length inner.now ≡ (Self.shape self.now).inner }
         requires room { FitsAt (Self.shape self.now) place.now }
+        requires few { HaveFewTags shot.now }
         ensures { IfGiven result (λ pending. pending
-            ≡ if_orderly (finds self.now tree.now place.now (state_of snapshot.now) inner.now)) };
+            ≡ if_orderly (finds self.now tree.now place.now (state_of shot.now) inner.now)) };
 
     /// The tokens inside it and in its own channels have two tags more at most.
     ghost tagged: { (t : Self) (tree : Tree) (node : ℕ) → IsTagged (deeper t) (widths t tree node) };

@@ -2,53 +2,54 @@
 
 ghost use Rattle.std.specs.Prelude.{◌≡◌, ◌++◌, ◌+◌, ◌≤◌, length};
 ghost use Rattle.p3l_base.specs.Memory.{IfGiven};
+ghost use Rattle.p3l_firing.specs.Shot.{HaveFewTags, state_of};
 ghost use Rattle.p3l_template.specs.Finding.{line_of};
 ghost use Rattle.p3l_template.specs.Lines.{lines_by};
-ghost use Rattle.p3l_template.specs.Shape.{fan_seats};
-ghost use Rattle.p3l_template.specs.Snapshot.{state_of};
+ghost use Rattle.p3l_template.specs.Shape.{fan_slots};
 
-use crate::bare::add_bare;
-use crate::snapshot::Snapshot;
+use crate::bare::{add_bare, add_saved};
 use crate::template::Ports;
-use crate::workers::worker_seat;
+use crate::workers::worker_slot;
 use p3l_base::{List, NoMemory};
-use p3l_firing::Token;
+use p3l_firing::{Shot, Token};
 use std::alloc::Global;
 
 /// Puts the line of an inner part after other tokens, without their outcomes.
 pub fn add_line(
     alloc: Global,
-    snapshot: &Snapshot,
+    shot: &Shot,
     to: &mut List<Token>,
-    seat: &Ports,
+    slot: &Ports,
     pending: &List<Token>,
 ) -> Result<(), NoMemory>
+    requires { HaveFewTags shot.now }
     ensures { IfGiven result (λ _. to.new
-        ≡ to.old ++ line_of (state_of snapshot.now) seat.now.input seat.now.output pending.now) }
+        ≡ to.old ++ line_of (state_of shot.now) slot.now.input slot.now.output pending.now) }
 {
-    add_bare(alloc, to, snapshot.tokens(seat.output))?;
+    add_saved(alloc, to, shot.tokens(slot.output as usize))?;
     add_bare(alloc, to, pending.as_slice())?;
-    add_bare(alloc, to, snapshot.tokens(seat.input))
+    add_saved(alloc, to, shot.tokens(slot.input as usize))
 }
 
 /// The lines of the workers, each without its outcomes, whose in channels are those from `chan` on.
 pub fn all_lines(
     alloc: Global,
-    snapshot: &Snapshot,
+    shot: &Shot,
     chan: u32,
     workers: u32,
     inner: &[List<Token>],
 ) -> Result<List<List<Token>>, NoMemory>
     requires inner { length inner.now ≡ workers }
     requires room { chan + (workers + workers) ≤ 1048576 }
+    requires few { HaveFewTags shot.now }
     ensures { IfGiven result (λ lines. lines
-        ≡ lines_by (state_of snapshot.now) (fan_seats chan (chan + workers) workers) inner.now) }
+        ≡ lines_by (state_of shot.now) (fan_slots chan (chan + workers) workers) inner.now) }
 {
     let mut lines = List::new(alloc);
     for worker in 0..workers {
-        let seat = worker_seat(chan, workers, worker).ports();
+        let slot = worker_slot(chan, workers, worker).ports();
         let mut line = List::new(alloc);
-        add_line(alloc, snapshot, &mut line, &seat, &inner[worker as usize])?;
+        add_line(alloc, shot, &mut line, &slot, &inner[worker as usize])?;
         lines.push(line)?;
     }
     Ok(lines)

@@ -56,7 +56,7 @@ fn fill(alloc: Global, slots: &mut [Option<Token>], from: u64, token: &Token) ->
     if slots[place].is_some() {
         return false;
     }
-    slots[place] = Some(bare(alloc, token).peeled());
+    slots[place] = Some(bare(alloc, token).untagged());
     true
 }
 

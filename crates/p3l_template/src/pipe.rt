@@ -3,25 +3,24 @@
 
 ghost use Rattle.std.specs.Prelude.{◌≡◌, ◌≤◌, ◌-◌, ◌+◌, ◌++◌, length};
 ghost use Rattle.p3l_base.specs.Memory.{IfGiven};
+ghost use Rattle.p3l_firing.specs.Shot.{HaveFewTags, state_of};
 ghost use Rattle.p3l_template.specs.Finding.{bares};
-ghost use Rattle.p3l_template.specs.Pipe.{stage_seats};
+ghost use Rattle.p3l_template.specs.Pipe.{stage_slots};
 ghost use Rattle.p3l_template.specs.PipeKind.{in_stages, pipe_kind, waiting};
-ghost use Rattle.p3l_template.specs.Snapshot.{state_of};
 ghost use Rattle.p3l_template.specs.Typing.{IsPipeNode};
 ghost use Rattle.p3l_template.specs.laws.PipeFound.{pipe_found};
 ghost use Rattle.p3l_template.specs.laws.PipeLaw.{pipe_lawful};
 ghost use Rattle.p3l_template.specs.laws.PipeTyping.{pipe_counted, pipe_serves};
 ghost use Rattle.p3l_template.specs.laws.Widths.{pipe_tagged};
 
-use crate::bare::add_bare;
+use crate::bare::{add_bare, add_saved};
 use crate::builder::Builder;
 use crate::kind::Kind;
-use crate::place::{Place, Seat};
-use crate::snapshot::Snapshot;
+use crate::place::{Site, Slot};
 use crate::template::{Ports, Template};
 use crate::width::{Width, push_stages};
 use p3l_base::{List, NoMemory};
-use p3l_firing::Token;
+use p3l_firing::{Shot, Token};
 use p3l_skel::Tree;
 use std::alloc::Global;
 
@@ -81,9 +80,9 @@ impl Kind for PipeTemplate {
         self.stages as usize - 1
     }
 
-    fn seats(&self, alloc: Global, place: &Place) -> Result<List<Seat>, NoMemory> {
+    fn slots(&self, alloc: Global, place: &Site) -> Result<List<Slot>, NoMemory> {
         let last = self.stages - 1;
-        stage_seats(alloc, last, place.input, place.chan, place.output)
+        stage_slots(alloc, last, place.input, place.chan, place.output)
     }
 
     fn push_widths(
@@ -111,11 +110,11 @@ impl Kind for PipeTemplate {
         &self,
         alloc: Global,
         _tree: &Tree,
-        snapshot: &Snapshot,
-        place: &Place,
+        shot: &Shot,
+        place: &Site,
         inner: &[List<Token>],
     ) -> Result<Option<List<Token>>, NoMemory> {
-        let pending = in_pipe(alloc, snapshot, place.chan, inner)?;
+        let pending = in_pipe(alloc, shot, place.chan, inner)?;
         Ok(Some(pending))
     }
 
@@ -126,72 +125,74 @@ impl Kind for PipeTemplate {
     ghost found = { λ t. pipe_found (t.stages - 1) };
 }
 
-// The seats of the stages between channels `from` and `to`, where the `last` channels between them
+// The slots of the stages between channels `from` and `to`, where the `last` channels between them
 // are those from `chan` on.
-fn stage_seats(
+fn stage_slots(
     alloc: Global,
     last: u32,
     from: u32,
     chan: u32,
     to: u32,
-) -> Result<List<Seat>, NoMemory>
+) -> Result<List<Slot>, NoMemory>
     requires { chan + last ≤ 1048576 }
-    ensures { IfGiven result (λ seats. seats ≡ stage_seats 0 from chan to last) }
+    ensures { IfGiven result (λ slots. slots ≡ stage_slots 0 from chan to last) }
 {
-    let mut seats = List::new(alloc);
+    let mut slots = List::new(alloc);
     let mut input = from;
     for part in 0..last {
         let output = chan + part;
-        seats.push(Seat {
+        slots.push(Slot {
             input,
             output,
             part,
         })?;
         input = output;
     }
-    seats.push(Seat {
+    slots.push(Slot {
         input,
         output: to,
         part: last,
     })?;
-    Ok(seats)
+    Ok(slots)
 }
 
 // Puts what is pending in a stage after other tokens, and then what waits before it in a channel of
 // the pipe's own, which are those from `chan` on.
 fn add_stage(
     alloc: Global,
-    snapshot: &Snapshot,
+    shot: &Shot,
     list: &mut List<Token>,
     chan: u32,
     stage: usize,
     pending: &List<Token>,
 ) -> Result<(), NoMemory>
-    requires { chan + stage ≤ 1048577 }
+    requires stage { chan + stage ≤ 1048577 }
+    requires few { HaveFewTags shot.now }
     ensures { IfGiven result (λ _. list.new
-        ≡ list.old ++ (bares pending.now ++ waiting (state_of snapshot.now) chan stage)) }
+        ≡ list.old ++ (bares pending.now ++ waiting (state_of shot.now) chan stage)) }
 {
     add_bare(alloc, list, pending.as_slice())?;
     if stage == 0 {
         return Ok(());
     }
-    add_bare(alloc, list, snapshot.tokens(chan + (stage - 1) as u32))
+    add_saved(alloc, list, shot.tokens(chan as usize + (stage - 1)))
 }
 
 // The tokens pending in a pipe whose own channels are those from `chan` on.
 fn in_pipe(
     alloc: Global,
-    snapshot: &Snapshot,
+    shot: &Shot,
     chan: u32,
     inner: &[List<Token>],
 ) -> Result<List<Token>, NoMemory>
-    requires { chan + length inner.now ≤ 1048577 }
-    ensures { IfGiven result (λ list. list ≡ in_stages (state_of snapshot.now) chan inner.now) }
+    requires chans { chan + length inner.now ≤ 1048577 }
+    requires few { HaveFewTags shot.now }
+    ensures { IfGiven result (λ list. list ≡ in_stages (state_of shot.now) chan inner.now) }
 {
     let mut list = List::new(alloc);
     for later in 0..inner.len() {
         let stage = inner.len() - 1 - later;
-        add_stage(alloc, snapshot, &mut list, chan, stage, &inner[stage])?;
+        add_stage(alloc, shot, &mut list, chan, stage, &inner[stage])?;
     }
     Ok(list)
 }

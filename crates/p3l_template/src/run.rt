@@ -10,12 +10,11 @@ ghost use Rattle.p3l_template.specs.laws.Widths.{run_tagged};
 
 use crate::builder::{Builder, one_channel};
 use crate::kind::Kind;
-use crate::place::{Place, Seat};
-use crate::snapshot::Snapshot;
+use crate::place::{Site, Slot};
 use crate::template::{Ports, Template};
 use crate::width::Width;
 use p3l_base::{List, NoMemory};
-use p3l_firing::{Proc, ProcKind, Token};
+use p3l_firing::{Proc, ProcKind, Shot, Token};
 use p3l_skel::Tree;
 use std::alloc::Global;
 
@@ -73,7 +72,7 @@ impl Kind for RunTemplate {
         0
     }
 
-    fn seats(&self, alloc: Global, _place: &Place) -> Result<List<Seat>, NoMemory> {
+    fn slots(&self, alloc: Global, _place: &Site) -> Result<List<Slot>, NoMemory> {
         Ok(List::new(alloc))
     }
 
@@ -99,8 +98,8 @@ impl Kind for RunTemplate {
         &self,
         alloc: Global,
         _tree: &Tree,
-        _snapshot: &Snapshot,
-        _place: &Place,
+        _shot: &Shot,
+        _place: &Site,
         _inner: &[List<Token>],
     ) -> Result<Option<List<Token>>, NoMemory> {
         Ok(Some(List::new(alloc)))

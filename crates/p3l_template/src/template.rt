@@ -7,7 +7,7 @@ ghost use Rattle.p3l_firing.specs.declared.net.Net.{Net};
 ghost use Rattle.p3l_template.specs.Built.{all_ports};
 ghost use Rattle.p3l_template.specs.Placed.{IsLawfulShape};
 ghost use Rattle.p3l_template.specs.Typing.{IsTypedShape};
-ghost use Rattle.p3l_template.specs.Shape.{Shape, base_of, added, HasRoomFor};
+ghost use Rattle.p3l_template.specs.Shape.{Blueprint, base_of, added, HasRoomFor};
 
 use crate::builder::Builder;
 use p3l_base::{List, NoMemory};
@@ -23,7 +23,7 @@ pub struct Ports {
 /// The processes and channels that a node of the tree places in a net.
 pub trait Template {
     /// Its processes and channels, round any inner parts.
-    ghost shape: { Self → Shape };
+    ghost shape: { Self → Blueprint };
 
     /// Its numbers are in range.
     ghost is_fit: { Self → Type 0 };
@@ -48,7 +48,7 @@ pub trait Template {
             ≡ added builder.old ((shape self.now).procs (base_of at.now builder.old))
             ((shape self.now).laid cap (base_of at.now builder.old))) }
         ensures ports { IfOk result (λ ports. ports
-            ≡ all_ports ((shape self.now).seats (base_of at.now builder.old))) };
+            ≡ all_ports ((shape self.now).slots (base_of at.now builder.old))) };
 
     /// Placed round lawful parts, it is a lawful part.
     ghost lawful: { (t : Self) → is_fit t → IsLawfulShape (shape t) };

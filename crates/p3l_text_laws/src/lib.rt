@@ -15,7 +15,7 @@ use p3l_print::print;
 use p3l_reader::read;
 use std::alloc::Global;
 
-/// Reads the canonical text of a program. Where the program has a text and its canonical one is
+/// Reads the canonical text of a program. If the program has a text and its canonical one is
 /// within the limit of a source text, this is the same program but for positions; it fails
 /// only if memory runs out.
 pub fn read_printed(alloc: Global, program: &Program) -> Result<Program, SourceRefusal>

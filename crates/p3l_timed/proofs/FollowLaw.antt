@@ -15,7 +15,7 @@ use Rattle.p3l_firing.specs.Lists.{has_first}
 use Rattle.p3l_firing.specs.Nodes.{Leaf}
 use Rattle.p3l_firing.specs.Process.{out_of}
 use Rattle.p3l_firing.specs.Run.{Course, picked}
-use Rattle.p3l_firing.specs.State.{Own, State, has_room, with_rest}
+use Rattle.p3l_firing.specs.State.{LocalState, State, has_room, with_rest}
 use Rattle.p3l_firing.specs.Token.{has_trap}
 use Rattle.p3l_firing.specs.Typed.{IsTyped}
 use Rattle.p3l_firing.specs.kinds.Source as source
@@ -35,7 +35,7 @@ use Rattle.p3l_timed.specs.Price.{price_at}
 use Rattle.p3l_timed.specs.Timed.{Timing, timed_step, timing_from}
 use Rattle.p3l_timed.proofs.Round.{due_again, due_stays, due_where, without_own}
 
--- what gets its moment before gets the same
+-- a moment given before changes nothing
 due_early : (can other : Bool) (fresh : ℕ) → due_next can fresh (due_next other fresh None) ≡ due_next can fresh None
 due_early true true fresh = refl
 due_early true false fresh = refl
@@ -51,7 +51,7 @@ module _ (m : Seen) (typed : IsTyped m.tree m.net) where
     unfolding with_rest
     tokens_same cs = same-everywhere (with_rest s rest) s (λ c. refl) cs
 
-    ready_alike : (o : Own) (r : ℕ) (x : Option Proc) → slice_get m.net.procs r ≡ x → r ≢ 0 → ready_of x m.tree m.net (with_rest s rest) o ≡ ready_of x m.tree m.net s o
+    ready_alike : (o : LocalState) (r : ℕ) (x : Option Proc) → slice_get m.net.procs r ≡ x → r ≢ 0 → ready_of x m.tree m.net (with_rest s rest) o ≡ ready_of x m.tree m.net s o
     unfolding ready_of
     ready_alike o r None stands other = refl
     ready_alike o r (Some q) stands other =
@@ -201,7 +201,7 @@ module _ (m : Seen) (outcomes : List Outcome) (rest : List (List ℤ)) (t : Timi
     abbrev left : ℕ → Option ℕ
     left = without p (due_at k.due)
 
-    -- what the run says of process r is what the timer says, but for what is still to be offered
+    -- the run and the timer agree on process r, except for the item still to be offered
     goes : (r : ℕ) → due_next (can_fire m.tree m.net after.course.state r) (fresh r) (left r) ≡ due_next (can_fire n.tree n.net after.course.state r) (fresh r) (due_next (can_step n r) (fresh r) (left r))
     goes r = ap (λ b. due_next b (fresh r) (left r)) (can_there r) ∙ elim (cases_eq r p) [
       | inl same ↦

@@ -1,4 +1,4 @@
--- What every timer keeps, as it is notified of offers and firings.
+-- Facts that stay true of every timer, as it is notified of offers and firings.
 use Rattle.std.proofs.Common.{◌≡◌, ◌≢◌, ℕ, zero, suc, ◌+◌, ◌*◌, ◌^◌, ◌<◌, ◌≤◌, inl, inr, Bool, true, false, not, ◌&&◌, cond, List, [], ◌∷◌, length, map, replicate, Option, Some, None, get_or, slice_get, slice_set, slice_index, refl, sym, ap, ◌∙◌, subst, arith, length-set}
 use Rattle.std.specs.Prelude.{unwrap_or}
 use Rattle.std.specs.Option.{is_some}
@@ -46,14 +46,14 @@ can_past m r past = ap (λ b. not m.trapped && b) (none_ready m.tree m.net (stat
 pub idle_is_none : (can : Bool) (fresh : ℕ) (due : Option ℕ) → can ≡ false → due_next can fresh due ≡ None
 idle_is_none can fresh due e = subst (λ b. due_next b fresh due ≡ None) (sym e) refl
 
--- what is shown where nothing will fire any more is right, since after a trap nothing can
+-- the moments shown are right: none is shown once nothing fires any more, since after a trap nothing can
 pub shown : (m : Seen) (over : Bool) (fresh : ℕ → ℕ) (base : ℕ → Option ℕ) (moments : List (Option ℕ)) → over ≡ m.trapped
     → (m.trapped ≡ false → (r : ℕ) → due_at moments r ≡ due_next (can_step m r) (fresh r) (base r))
     → (r : ℕ) → due_at (cond over [] moments) r ≡ due_next (can_step m r) (fresh r) (base r)
 shown m true fresh base moments e each r = sym (idle_is_none (can_step m r) (fresh r) (base r) (trapped_steps m (sym e) r))
 shown m false fresh base moments e each r = each (sym e) r
 
--- what was read is there
+-- an element within a list is the same by `get_or` and by `slice_index`
 pub read_at : (xs : List ℕ) (i d : ℕ) → i < length xs → get_or xs i d ≡ slice_index xs i
 read_at [] i d there = absurd (omega (arith, there))
 read_at (x ∷ xs) zero d there = refl

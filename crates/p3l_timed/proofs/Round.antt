@@ -13,7 +13,7 @@ use Rattle.p3l_timed.specs.Moments.{due_at}
 use Rattle.p3l_timed.specs.Clock.{IsOnTheWay, OthersAsBefore}
 use Rattle.p3l_timed.specs.Due.{due_next, renewed, without}
 
--- what is due stays due by another look
+-- a second look changes no due time
 pub due_again : (can : Bool) (fresh : ℕ) (due : Option ℕ) → due_next can fresh (due_next can fresh due) ≡ due_next can fresh due
 due_again true fresh None = refl
 due_again true fresh (Some d) = refl

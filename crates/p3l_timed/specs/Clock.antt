@@ -1,4 +1,4 @@
--- What contracts see of a timer, and what it has to do with the machine that it times.
+-- The view that contracts have of a timer, and its relation to the machine that it times.
 use Rattle.std.specs.Prelude.{◌≡◌, ◌≢◌, ℕ, ◌+◌, ◌*◌, ◌^◌, ◌<◌, ◌≤◌, Bool, ◌⊎◌, List, Option, Some, None, length, slice_set, slice_index, unwrap_or}
 use Rattle.std.specs.Option.{is_some}
 use Rattle.p3l_net.specs.Machine.{Seen, can_step}
@@ -62,7 +62,7 @@ pub record IsTimely (prices busy : List ℕ) (due : List (Option ℕ)) (moment f
   pub early : moment ≤ fired * 2 ^ 48
   pub soon : (r d : ℕ) → due_at due r ≡ Some d → d ≤ (fired + 1) * 2 ^ 48
 
--- what every timer keeps
+-- the invariant of every timer
 pub record IsKept (prices busy : List ℕ) (due : List (Option ℕ)) (moment fired : ℕ) : Type 0 where
   pub timely : IsTimely prices busy due moment fired
   pub as_many : length busy ≡ length prices

@@ -33,7 +33,7 @@ OfferKeepsTime =
     → IsTyped m.tree m.net → Times k m t → m.inbox ≡ None → IsRenewed (record m { inbox = Some item }) k new
     → Times new (record m { inbox = Some item }) t
 
--- where the inbox is filled as long as items are left, the same process is the next, and none where none is
+-- the clock's next process is the timing's, and none if none is, if the inbox is filled as long as items are left
 pub record IsInTime (k : Clock) (t : Timing) : Type 0 where
   pub next : (p : ℕ) → IsNext (due_at k.due) p → IsNext t.due p
   pub none : ((q : ℕ) → due_at k.due q ≡ None) → (q : ℕ) → t.due q ≡ None

@@ -1,4 +1,4 @@
--- What holds of every timed run, of whatever net, at whatever prices.
+-- Laws of every timed run, of any net, at any prices.
 use Rattle.std.specs.Prelude.{◌≡◌, ℕ, ℤ, ◌≤◌, List, length}
 use Rattle.p3l_skel.specs.declared.tree.Tree.{Tree}
 use Rattle.p3l_firing.specs.declared.net.Net.{Net}

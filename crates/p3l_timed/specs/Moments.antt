@@ -15,7 +15,7 @@ IsSooner (Some a) None = ⊤
 IsSooner None (Some b) = ⊥
 IsSooner None None = ⊥
 
--- when a number is due
+-- the due time of a number, if any
 abbrev pub due_at : List (Option ℕ) → ℕ → Option ℕ
 due_at moments p = get_or moments p None
 

@@ -1,4 +1,4 @@
--- What a firing of each process costs, in ticks: the same at every firing.
+-- The price of a firing of each process, in ticks: the same at every firing.
 use Rattle.std.specs.Prelude.{◌≡◌, ℕ, ◌+◌, ◌-◌, ◌*◌, ◌==◌, ◌<◌, ◌^◌, if◌then◌else◌, List, Some, length, map, max, min, slice_get, slice_index}
 use Rattle.std.specs.Int.{div_ceil}
 use Rattle.p3l_skel.specs.declared.tree.Form.{Form}
@@ -13,7 +13,7 @@ use Rattle.p3l_firing.specs.declared.process.ProcKind.{ProcKind}
 use Rattle.p3l_firing.specs.declared.process.ProcKind.TheVariants as kinds
 use Rattle.p3l_firing.specs.Nodes.{elem_of}
 
--- how many elements a form has, if it is that of a reduce
+-- the number of elements of a reduce; 0 for other forms
 abbrev pub len_of : Form → ℕ
 len_of Seq = 0
 len_of Comp = 0

@@ -66,10 +66,10 @@ BeginsTimed tree leaf net price items picks = FiresNext tree leaf net price (tim
 abbrev pub finish_of : Tree → Leaf → Net → (ℕ → ℕ) → List (List ℤ) → List ℕ → ℕ
 finish_of tree leaf net price items picks = (timed_after tree leaf net price (timing_from tree net price items) picks).moment
 
--- how long process p was busy in all: its price at each of its firings
+-- the busy time of process p in all: its price at each of its firings
 abbrev pub busy_of : (ℕ → ℕ) → List ℕ → ℕ → ℕ
 busy_of price picks p = times p picks * price p
 
--- how long n processes were busy
+-- the busy time of the first n processes in all
 abbrev pub all_busy : (ℕ → ℕ) → List ℕ → ℕ → ℕ
 all_busy price picks n = sum_by (busy_of price picks) (range_with_len 0 n)

@@ -12,7 +12,8 @@ ghost use Rattle.p3l_timed.specs.Price.{price_at};
 use crate::Moments;
 use p3l_net::Machine;
 
-// When a process is due that was due so, if it was, and can fire or not.
+// Returns the due time of a process, from the one before: none if it can't fire; otherwise the one
+// before, or `fresh` if it was not due.
 fn due_next(can: bool, fresh: u128, due: Option<u128>) -> Option<u128>
     ensures { result ≡ due_next can fresh due }
 {

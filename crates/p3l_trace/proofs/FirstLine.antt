@@ -6,7 +6,7 @@ use Rattle.p3l_trace.specs.declared.line.LineItem.{LineItem}
 use Rattle.p3l_trace.specs.Kind.{word_of, said_format}
 use Rattle.p3l_trace.specs.Text.{header, end_word, space, feed, most_pick, most_count, pick_format, line_format, next_line, first_line, lines_format, counts_format, body_format, trace_format}
 use Rattle.p3l_trace.specs.laws.Text.{lawful_pick, lawful_counts, lawful_lines, lines_series, counts_fit}
-use Rattle.p3l_format.specs.declared.fault.Fault.{Fault}
+use Rattle.p3l_format.specs.declared.fault.FieldFault.{FieldFault}
 use Rattle.p3l_format.specs.Format.{read_all}
 use Rattle.p3l_format.specs.Line.{line_number}
 use Rattle.p3l_format.specs.FirstLine.{IsWhole, IsFirstBadLine}
@@ -85,5 +85,5 @@ unfolding trace_format
 trace_whole = each_text_then IsWhole IsWhole IsWhole header body_format whole_append (whole_line header header_is_line) body_whole
 
 -- the line that is reported of a refused text
-pub trace_first_bad : (s : List ℕ) (f : Fault) → read_all trace_format s ≡ Err f → IsFirstBadLine trace_format s (line_number s f.left)
+pub trace_first_bad : (s : List ℕ) (f : FieldFault) → read_all trace_format s ≡ Err f → IsFirstBadLine trace_format s (line_number s f.left)
 trace_first_bad s f e = first_bad trace_format trace_reports trace_whole s f e

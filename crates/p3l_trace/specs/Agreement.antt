@@ -1,4 +1,4 @@
--- How the lines of a trace agree with a run.
+-- Agreement of the lines of a trace with a run.
 use Rattle.std.specs.Prelude.{◌≡◌, ℕ, ℤ, ◌+◌, ◌<◌, ◌⊎◌, Bool, true, false, not, List, [], ◌∷◌, ◌++◌, ⊤, cond, count_by, length, map, Option, Some, None}
 use Rattle.p3l_base.specs.declared.outcome.Outcome.{Outcome}
 use Rattle.p3l_skel.specs.declared.tree.Tree.{Tree}
@@ -12,7 +12,7 @@ use Rattle.p3l_firing.specs.State.{State}
 use Rattle.p3l_trace.specs.declared.trace.TraceLine.{TraceLine}
 use Rattle.p3l_trace.specs.declared.trace.Traced.{Traced}
 
--- what is to be said of a pick: the kind of the process, if it can fire, and else that it is idle
+-- the entry of a pick: the kind of the process if it can fire, else None, for an idle one
 abbrev pub said_if : Bool → Net → ℕ → Option ProcKind
 said_if fires net p = cond fires (kind_at net p) None
 
@@ -47,7 +47,7 @@ abbrev pub is_kind : Option ProcKind → Bool
 is_kind None = false
 is_kind (Some kind) = true
 
--- how many lines are of firings, and how many of idle picks
+-- the count of the lines of firings, and that of idle picks
 abbrev pub fired_of : List TraceLine → ℕ
 fired_of lines = count_by (λ line. is_kind line.kind) lines
 

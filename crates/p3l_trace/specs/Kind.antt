@@ -1,9 +1,9 @@
--- What is said of a pick: the kind of the process that fires, or that it is idle; each by a word.
+-- The label of a pick: the kind of the process that fires, or idle; each is spelled by a word.
 use Rattle.std.specs.Prelude.{ℕ, List, [], ◌∷◌, Option, Some, None, Result, Ok, Err}
 use Rattle.p3l_firing.specs.declared.process.ProcKind.{ProcKind}
 use Rattle.p3l_firing.specs.declared.process.ProcKind.TheVariants.{Source, Sink, Run, Emit, Collect, Scatter, Gather, Split, FoldGather, Join, Head, Tail}
 use Rattle.p3l_format.specs.declared.fault.Cause.TheVariants.{Range}
-use Rattle.p3l_format.specs.declared.fault.Fault.{Fault}
+use Rattle.p3l_format.specs.declared.fault.FieldFault.{FieldFault}
 use Rattle.p3l_format.specs.Format.{Format, always, fault_at}
 use Rattle.p3l_format.specs.Text.{after_text}
 
@@ -29,12 +29,12 @@ all_said =
     Some Source ∷ Some Sink ∷ Some Run ∷ Some Emit ∷ Some Collect ∷ Some Scatter ∷ Some Gather ∷ Some Split ∷ Some FoldGather ∷ Some Join ∷ Some Head ∷ Some Tail ∷ None ∷ []
 
 -- this is said where its word is in front, and else what is read
-abbrev pub said_or : Option ProcKind → Option (List ℕ) → Result (Option ProcKind × List ℕ) Fault → Result (Option ProcKind × List ℕ) Fault
+abbrev pub said_or : Option ProcKind → Option (List ℕ) → Result (Option ProcKind × List ℕ) FieldFault → Result (Option ProcKind × List ℕ) FieldFault
 said_or said (Some rest) read = Ok (said, rest)
 said_or said None read = read
 
 -- the first of these whose word is in front, and what is after it
-abbrev pub first_said : List (Option ProcKind) → List ℕ → Result (Option ProcKind × List ℕ) Fault
+abbrev pub first_said : List (Option ProcKind) → List ℕ → Result (Option ProcKind × List ℕ) FieldFault
 first_said [] s = Err (fault_at Range s)
 first_said (said ∷ more) s = said_or said (after_text (word_of said) s) (first_said more s)
 

@@ -49,7 +49,7 @@ first_line = record {}
 unfoldable pub lines_format : Format ℕ (List TraceLine)
 lines_format = until line_format next_line first_line end_word
 
--- what is after the first word of the last line: how many picks fired, and how many were idle
+-- the last line after its first word: the counts of picks that fired and of idle ones
 unfoldable pub counts_format : Format ℕ (ℕ × ℕ)
 counts_format = both (number_then 0 most_count space) (number_then 0 most_count feed)
 

@@ -1,4 +1,4 @@
-// How the lines of a trace agree with a machine, and its counts with them.
+// Agreement of the lines of a trace with a machine, and of its counts with the lines.
 
 ghost use Rattle.std.specs.Prelude.{◌≡◌, ◌↔◌, List, IsTrue, not};
 ghost use Rattle.p3l_base.specs.declared.outcome.Outcome.{Outcome};
@@ -27,14 +27,14 @@ pub fn agrees(line: &TraceLine, machine: &Machine<'_>, net: &Net) -> bool
     line.kind.is_none()
 }
 
-// How many lines are of firings.
+// Counts the lines of firings.
 fn fired_of(lines: &[TraceLine]) -> u64
     ensures { result ≡ fired_of lines.now }
 {
     lines.iter().filter(|line| line.kind.is_some()).count() as u64
 }
 
-// How many lines are of idle picks.
+// Counts the lines of idle picks.
 fn idle_of(lines: &[TraceLine]) -> u64
     ensures { result ≡ idle_of lines.now }
 {

@@ -14,7 +14,7 @@ abbrev pub flag_number : Bool → ℕ
 flag_number false = 0
 flag_number true = 1
 
--- whether a module of a kind has a rescue number: a byte, 0 or, where the kind allows one, 1
+-- the flag of a module of a kind for a rescue number: a byte, 0 or, where the kind allows one, 1
 unfoldable pub flag_format : ModuleKind → Format ℕ Bool
 flag_format kind = within (λ has. not has || may_rescue kind) (one_of flags flag_number)
 

@@ -1,5 +1,5 @@
 -- Constants are distinct, so each name is new to the ones before it; and what the front of a map holds.
-use Rattle.std.proofs.Common.{◌≡◌, ℕ, ℤ, zero, suc, ◌+◌, ◌<◌, ◌≤◌, Bool, true, false, not, List, [], ◌∷◌, ◌++◌, take, Option, Some, None, refl, sym, ap, ◌∙◌, subst, add-one, arith}
+use Rattle.std.proofs.Common.{◌≡◌, ℕ, ℤ, zero, suc, ◌+◌, ◌<◌, ◌≤◌, Bool, true, false, not, List, [], ◌∷◌, ◌++◌, take, Some, None, refl, sym, ap, ◌∙◌, subst, add-one, arith}
 use Rattle.std.specs.Prelude.{bytes_eq, slice_get, cond}
 use Rattle.std.specs.List.{IsDistinct, AllByRecursion, position_or_len, position}
 use Rattle.std.specs.Map.{lookup, keys_of}
@@ -8,7 +8,7 @@ use Rattle.std.proofs.lemmas.Map.Keys.{IsDistinct-head, IsDistinct-tail}
 use Rattle.indexmap.proofs.MapLemmas.{Found-position}
 use Rattle.p3l_types.specs.Constants.{Constants}
 
--- what is so of all is so at a place
+-- a property of all names holds of the name at a place
 at_place : (P : List ℕ → Type 0) (constants : Constants) (k : ℕ) (name : List ℕ) (value : ℤ) →
     AllByRecursion P (keys_of constants) → slice_get constants k ≡ Some (name, value) → P name
 at_place P [] k name value all e = absurd cc

@@ -19,7 +19,7 @@ there_within P [] i has = absurd has
 there_within P (x ∷ xs) zero has = omega arith
 there_within P (x ∷ xs) (suc i) has = let h = there_within P xs i has in omega arith
 
--- what belongs to a module is there
+-- `if_seq` returns the given entry, if it returns one
 seq_found : {A : Type 0} (P : A → Type 0) (info : Option ModuleInfo) (found : Option A) → IsSomeAnd (if_seq info found) P → if_seq info found ≡ found
 seq_found P None found has = absurd has
 seq_found {A} P (Some info) found has = by (is_seq_kind info.kind) has
@@ -62,7 +62,7 @@ module _ (served : Served) (places : List ℕ) (is : IsTable served.tree served.
     unfolding takes_ins
     runs_body words fits = sym (leaves_are_runs served k code words is.have_codes there seq own (fits ∙ sym takes_ins))
 
-    -- where its module rescues nothing, it does what its code does
+    -- a node does what its code does, if its module rescues nothing
     pub does_node : None ≡ rescue_of served.tree (node_at served.tree k).module → DoesNode served k code (node_at served.tree k).module
     unfolding takes_ins runs_body
     does_node none =

@@ -30,13 +30,13 @@ abbrev pub one_if_seq : ModuleKind → ℕ
 one_if_seq kinds.Seq = 1
 one_if_seq _ = 0
 
--- how many `seq` modules there are before a module
+-- the number of `seq` modules before a module
 abbrev pub seqs_before : List ModuleInfo → ℕ → ℕ
 seqs_before modules zero = 0
 seqs_before [] (suc m) = 0
 seqs_before (x ∷ modules) (suc m) = one_if_seq x.kind + seqs_before modules m
 
--- what belongs to a module, if it is a `seq` module
+-- the given entry of a module, if it is a `seq` module
 abbrev pub if_seq : {A : Type 0} → Option ModuleInfo → Option A → Option A
 if_seq None found = None
 if_seq (Some info) found = if is_seq_kind info.kind then found else None
@@ -62,13 +62,13 @@ abbrev pub is_seq : Form → Bool
 is_seq forms.Seq = true
 is_seq _ = false
 
--- whether a module's `seq` nodes take and give these numbers of words
+-- true exactly if a module's `seq` nodes take and give these numbers of words
 abbrev pub agrees : ℕ → ℕ → ℕ → List Node → Bool
 agrees m ins outs [] = true
 agrees m ins outs (node ∷ nodes) =
     (if nat_eq node.«module» m && is_seq node.form then nat_eq ins node.ins && nat_eq outs node.outs else true) && agrees m ins outs nodes
 
--- what stands for the outcome where no code fits, which no lawful run comes to
+-- the outcome if no code fits, which no lawful run comes to
 abbrev pub unfit : ℕ → Outcome
 unfit m = Trapped (record { kind = Index; «module» = m })
 
@@ -81,7 +81,7 @@ abbrev pub run_of : Served → ℕ → List ℤ → Option Code → Outcome
 run_of served m words None = unfit m
 run_of served m words (Some code) = if_fits served.tree m code.ins code.outs words (exec code m words)
 
--- what the code of a module makes of the words that it takes
+-- the outcome of a module's code on the words that it takes
 unfoldable pub leaf : Served → ℕ → List ℤ → Outcome
 leaf served m words = run_of served m words (code_of served m)
 
@@ -103,7 +103,7 @@ pub record DoesNode (served : Served) (k : ℕ) (code : Code) (m : ℕ) : Type 0
 abbrev pub HasPlaces : List ModuleInfo → List ℕ → Type 0
 HasPlaces modules places = (m : ℕ) → m < length modules → slice_get places m ≡ Some (seqs_before modules m)
 
--- what a table of units keeps: the tree is lawful, its `seq` nodes have codes, and the place of each
+-- the invariant of a table of units: the tree is lawful, its `seq` nodes have codes, and the place of each
 -- module's code is noted
 pub record IsTable (tree : Tree) (codes : List Code) (places : List ℕ) : Type 0 where
   pub lawful : IsLawfulTree tree

@@ -3,7 +3,7 @@ use Rattle.std.proofs.Common.{◌≡◌, ℕ, zero, suc, ◌⊎◌, inl, inr, �
 use Rattle.std.specs.Prelude.{slice_get, slice_set}
 use Rattle.p3l_verify.specs.Known.{Knows, CanNote, KnowsAt, CanNoteAt, noted_at}
 
--- what may be noted is unknown, or known to be the same
+-- a place whose depth may be noted has no known depth, or the same
 pub unknown_or_same : (known : List (Option ℕ)) (p d : ℕ) → CanNote known p d → (slice_get known p ≡ Some None) ⊎ Knows known p d
 unknown_or_same [] p d can = absurd can
 unknown_or_same (None ∷ known) zero d can = inl refl
@@ -23,7 +23,7 @@ knows_kept (o ∷ known) zero d (suc q) x can k = k
 knows_kept (o ∷ known) (suc p) d zero x can k = k
 knows_kept (o ∷ known) (suc p) d (suc q) x can k = knows_kept known p d q x can k
 
--- what is known was known, or is what was noted
+-- a depth known after a note was known before, or is the noted one
 pub knows_new : (known : List (Option ℕ)) (p d q x : ℕ) → Knows (slice_set known p (Some d)) q x → Knows known q x ⊎ ((q ≡ p) × (x ≡ d))
 knows_new [] p d q x k = inl k
 knows_new (o ∷ known) zero d zero x k = let e : x ≡ d = cc in inr (refl, e)

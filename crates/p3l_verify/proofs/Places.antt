@@ -1,4 +1,4 @@
--- How a verifier goes over one place.
+-- The step of a verifier at one place.
 use Rattle.std.proofs.Common.{◌≡◌, ℕ, ◌+◌, ◌<◌, ◌≤◌, ◌⊎◌, inl, inr, ⊎_elim, Bool, true, false, List, length, map, get_or, Option, Some, None, refl, sym, ap, ◌∙◌, subst, arith, length-set}
 use Rattle.std.specs.Prelude.{slice_get, slice_set, IsSomeAnd}
 use Rattle.std.specs.Option.{option_map}
@@ -69,7 +69,7 @@ settles code known place d s inside can unreached =
     (must, noted code known place place d s can (s.rooted place d k) must))
     (unknown_or_same known place d can)
 
--- where depths keep the rules, what is known lets them be noted
+-- if depths keep the rules, the known depths let them be noted
 pub can_note : (code : Code) (known : List (Option ℕ)) (place : ℕ) → IsSound code known place → (depths : List ℕ) → AreDepths code depths → (to : Option ℕ) (x : ℕ) → Agrees depths x to → CanNoteAt known to x
 can_note code known place s depths are None x agrees = tt
 can_note code known place s depths are (Some to) x agrees = by (slice_get known to) refl

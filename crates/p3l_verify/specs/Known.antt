@@ -1,4 +1,4 @@
--- What a verifier knows of the depths of places, and what that says of the rules.
+-- The depths of places that a verifier knows, and the rules that follow from them.
 use Rattle.std.specs.Prelude.{◌≡◌, ℕ, ◌+◌, ◌<◌, ◌≤◌, ◌⊎◌, List, length, Option, Some, None, slice_get, slice_set, IsSomeAnd}
 use Rattle.p3l_code.specs.declared.instr.Instr.{Instr}
 use Rattle.p3l_code.specs.declared.instr.Code.{Code}
@@ -33,7 +33,7 @@ pub record IsLocal (code : Code) (place : ℕ) (i : Instr) (depth : ℕ) : Type 
 abbrev pub Knows : List (Option ℕ) → ℕ → ℕ → Type 0
 Knows known place depth = slice_get known place ≡ Some (Some depth)
 
--- what is known of a place is nothing, or this depth
+-- the known depth of a place, if any, is this one
 abbrev pub IsFree : Option ℕ → ℕ → Type 0
 IsFree None depth = Unit {0}
 IsFree (Some other) depth = other ≡ depth
@@ -51,7 +51,7 @@ abbrev pub noted_at : List (Option ℕ) → Option ℕ → ℕ → List (Option 
 noted_at known None depth = known
 noted_at known (Some to) depth = slice_set known to (Some depth)
 
--- where an instruction leads to, the depth is known to be the one after it
+-- the place that an instruction leads to, if any, is known to have this depth
 abbrev pub KnowsAt : List (Option ℕ) → ℕ → Option ℕ → Type 0
 KnowsAt known depth None = Unit {0}
 KnowsAt known depth (Some to) = Knows known to depth
@@ -66,7 +66,7 @@ pub record IsFineSoFar (code : Code) (known : List (Option ℕ)) (place : ℕ) (
 abbrev pub IsSettled : Code → List (Option ℕ) → ℕ → Instr → Type 0
 IsSettled code known place i = (depth : ℕ) × Knows known place depth × IsFineSoFar code known place i depth
 
--- what is known once the places below one were gone over
+-- the known depths are sound, with the places below this one visited
 pub record IsSound (code : Code) (known : List (Option ℕ)) (place : ℕ) : Type 0 where
   pub whole : length known ≡ length code.instrs
   pub start : Knows known 0 0

@@ -1,4 +1,4 @@
--- What a node does goes by what its parts do, whatever the depth.
+-- The notes of a node depend only on the notes of its parts, at any depth.
 use Rattle.std.proofs.Common.{◌≡◌, ℕ, ℤ, zero, suc, ◌+◌, ◌<◌, ◌≤◌, List, [], ◌∷◌, ◌++◌, length, refl, arith, ap, sym, ◌∙◌}
 use Rattle.p3l_base.specs.declared.outcome.Outcome.{Outcome}
 use Rattle.p3l_base.specs.declared.outcome.Outcome.TheVariants.{Value}
@@ -15,7 +15,7 @@ use Rattle.p3l_walk.specs.Notes.{Note, notes_on, stage_notes, map_notes, fold_no
 same_function : {A B : Type 0} (f g : A → B) → ((x : A) → f x ≡ g x) → f ≡ g
 same_function f g h = λ i x. h x i
 
--- what is done is the same at these nodes
+-- the notes are the same at these nodes
 SameAt : (ℕ → List ℤ → List Note) → (ℕ → List ℤ → List Note) → List ℕ → Type 0
 SameAt f g [] = Unit {0}
 SameAt f g (p ∷ ps) = (f p ≡ g p) × SameAt f g ps
@@ -79,7 +79,7 @@ module _ (tree : Tree) (leaf : ℕ → List ℤ → Outcome) (steps : ℕ → Li
         ∙ sym (row-same (node_at tree k).module (node_at tree k).form (node_at tree k).ins (node_at tree k).outs (node_at tree k).parts (notes_to tree leaf steps 6) (notes_to tree leaf steps 5) node.form
         (parts_agree 5 6 (λ j n s. deep 5 6 j n (omega arith) s) (node_at tree k).parts (k + 1) subtree.0 subtree.1.1) words)
 
-    -- what a node of a form does
+    -- the notes of a node of a form are those of its row
     pub notes_at : (node : Node) (k : ℕ) (form : Form) (words : List ℤ) → node ≡ node_at tree k → k < length tree.nodes → node.form ≡ form → notes_row steps node.module form node.parts (item tree leaf) (notes tree leaf steps) words ≡ notes tree leaf steps k words
     notes_at node k form words found inside is =
         sym (ap (λ f. notes_row steps node.module f node.parts (item tree leaf) (notes tree leaf steps) words) is)

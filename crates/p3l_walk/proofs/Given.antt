@@ -19,7 +19,7 @@ pub given-surely : (r : Result Outcome NoMemory) (x : Outcome) → IfGivenOr r (
 given-surely (Ok o) x is = is
 given-surely (Err e) x wants = ⊎_elim (λ refused. refused) (λ want. absurd cc) wants
 
--- what holds of the one outcome that a call may give
+-- a property of the one outcome that a call may give holds of its result
 pub given-along : (want : Type 0) (P : Outcome → Type 0) (r : Result Outcome NoMemory) (x : Outcome) → P x → IfGivenOr r (λ o. o ≡ x) want → IfOk r P
 given-along want P (Ok o) x holds is = subst P (sym is) holds
 given-along want P (Err e) x holds wants = tt

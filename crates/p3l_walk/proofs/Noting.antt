@@ -1,4 +1,4 @@
--- What is noted, one step at a time.
+-- Notes that are taken, one step at a time.
 use Rattle.std.proofs.Common.{◌≡◌, ℕ, ℤ, zero, suc, ◌+◌, ◌-◌, ◌/◌, ◌<◌, ◌≤◌, Bool, true, false, cond, List, [], ◌∷◌, ◌++◌, length, map, take, drop, get_or, Result, Ok, Err, OnOk, refl, sym, ap, ◌∙◌, arith, drop-cons, add-one, append-nil, length-take, length-drop}
 use Rattle.std.specs.List.{range_with_len}
 use Rattle.std.proofs.lemmas.List.{drop_all}
@@ -99,7 +99,7 @@ module _ {S : Type 0} (noted : S → Note → S) where
         let two = half_length m all less several in
         rw (enough n m (take (length all / 2) all) one.0 two.0, enough n m (drop (length all / 2) all) one.1 two.1) refl
 
-    -- what is done once the left half is folded
+    -- the notes once the left half is folded
     rest_notes : List (List ℤ) → List (List ℤ) → List Note
     rest_notes front back =
         fold_notes operator does back ++ notes_on does (combined (λ words. Value words) (folded operator front) (folded operator back))
@@ -161,7 +161,7 @@ module _ {S : Type 0} (noted : S → Note → S) where
   -- turns
   module _ (home : ℕ) (body condition : List ℤ → Outcome) (in_body in_condition : List ℤ → List Note) (made left : ℕ) (words : List ℤ) (g one two whole : S) (some : 0 < left)
       (so_far : noted_by noted g (turn_notes home body condition in_body in_condition made left words) ≡ whole) (began : one ≡ noted g (turn home (made + 1))) (turned : two ≡ noted_by noted one (in_body words)) where
-    -- what follows the condition, and what follows the body
+    -- the notes after the condition, and those after the body
     after_test : List ℤ → Outcome → List Note
     after_test result answer =
         notes_on (λ a. cond (is_done a) [] (turn_notes home body condition in_body in_condition (made + 1) (left - 1) result)) answer

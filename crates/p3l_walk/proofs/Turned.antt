@@ -20,7 +20,7 @@ module _ (body condition : List ℤ → Outcome) (spent : Outcome) where
   unfolding turn
   turned-body_trap n words trap some is = ap (turn (n - 1)) is ∙ sym (turned-step n words some)
 
-  -- what follows the condition
+  -- the outcome after the condition
   after : ℕ → List ℤ → Outcome → Outcome
   after left result answer = on_value (λ a. if is_done a then Value result else turned body condition spent left result) answer
 

@@ -1,4 +1,4 @@
--- What is done for an item: the runs of codes and the turns of loops, in their order.
+-- The work done for an item: the runs of codes and the turns of loops, in their order.
 use Rattle.std.specs.Prelude.{ℕ, ℤ, zero, suc, ◌+◌, ◌/◌, Option, Some, None, List, [], ◌∷◌, ◌++◌, length, map, take, drop, slice_index, if◌then◌else◌}
 use Rattle.std.specs.List.{range_with_len}
 use Rattle.p3l_base.specs.declared.cut.Cut.{Cut}
@@ -18,12 +18,12 @@ pub data Note : Type 0 where
   ran : (home steps : ℕ) → Note
   turn : (home number : ℕ) → Note
 
--- what is done with the words of an outcome, and nothing with a trap
+-- the notes on the words of an outcome, and none on a trap
 abbrev pub notes_on : (List ℤ → List Note) → Outcome → List Note
 notes_on noted (Value words) = noted words
 notes_on noted (Trapped trap) = []
 
--- what is done only where an outcome is no trap
+-- the notes if an outcome is no trap, otherwise none
 abbrev pub if_value : Outcome → List Note → List Note
 if_value (Value words) notes = notes
 if_value (Trapped trap) notes = []
@@ -75,7 +75,7 @@ turn_notes home body condition in_body in_condition made (suc left) words =
     ++ notes_on (λ answer. if is_done answer then [] else turn_notes home body condition in_body in_condition (made + 1) left result) (condition result))
     (body words))
 
--- what a node of a module does, where it is known what its parts make of words and do
+-- the notes of a node of a module, given the outcomes and notes of its parts
 abbrev pub notes_row : (ℕ → List ℤ → ℕ) → ℕ → Form → List ℕ → (ℕ → List ℤ → Outcome) → (ℕ → List ℤ → List Note) → List ℤ → List Note
 notes_row steps home Seq parts part noted words = ran home (steps home words) ∷ []
 notes_row steps home Comp parts part noted words = stage_notes part noted parts (Value words)
@@ -87,14 +87,14 @@ notes_row steps home (Reduce w len elem) parts part noted words =
 notes_row steps home (Loop turns tokens) parts part noted words =
     turn_notes home (part (slice_index parts 0)) (part (slice_index parts 1)) (noted (slice_index parts 0)) (noted (slice_index parts 1)) 0 turns words
 
--- what a node of a tree does for the words of an item, down to a depth, where it is known what each
--- `seq` module makes of words, and how many instructions it does
+-- the notes of a tree's node on the words of an item, down to a depth, given the outcome of each
+-- `seq` module on words, and its number of instructions
 unfoldable pub notes_to : Tree → (ℕ → List ℤ → Outcome) → (ℕ → List ℤ → ℕ) → ℕ → ℕ → List ℤ → List Note
 notes_to tree leaf steps =
     by_parts (λ noted k. notes_row steps (node_at tree k).module (node_at tree k).form (node_at tree k).parts (item tree leaf) noted)
     (λ k words. [])
 
--- what a node of a tree does for the words of an item
+-- the notes of a tree's node on the words of an item
 abbrev pub notes : Tree → (ℕ → List ℤ → Outcome) → (ℕ → List ℤ → ℕ) → ℕ → List ℤ → List Note
 notes tree leaf steps node words = notes_to tree leaf steps nesting node words
 

@@ -1,4 +1,4 @@
--- What expressions give in a valuation, or the first trap. Operands are evaluated from left to right.
+-- Values of expressions in a valuation, or the first trap. Operands are evaluated from left to right.
 use Rattle.std.specs.Prelude.{ℕ, ℤ, ◌+◌, ◌*◌, pos, List, ◌∷◌, Result, Ok, Err, nat_lt, if◌then◌else◌}
 use Rattle.p3l_base.specs.declared.outcome.TrapKind.{TrapKind}
 use Rattle.p3l_base.specs.declared.outcome.TrapKind.TheVariants.{Index}
@@ -9,7 +9,7 @@ use Rattle.p3l_ast.specs.Tree.{Phrase, number, read, unary, binary, Phrases, non
 use Rattle.p3l_ast.specs.Meaning.Operator.{truth, holds, unary_of, binary_of}
 use Rattle.p3l_ast.specs.Meaning.Valuation.{sizes_of, word_of}
 
--- what comes of a result, if it is no trap
+-- the result of `go` on a value, or the trap
 abbrev pub given : {A B : Type 0} → Result A TrapKind → (A → Result B TrapKind) → Result B TrapKind
 given (Ok x) go = go x
 given (Err trap) go = Err trap

@@ -1,4 +1,4 @@
--- What operators give, on 64-bit whole numbers in two's complement.
+-- Results of operators, on 64-bit whole numbers in two's complement.
 use Rattle.std.specs.Prelude.{ℕ, ℤ, pos, negsuc, ◌+ℤ◌, ◌-ℤ◌, ◌*ℤ◌, neg_ℤ, Bool, not, ◌&&◌, ◌||◌, Result, Ok, Err, nat_lt, int_lt, int_le, int_div, int_rem, if◌then◌else◌}
 use Rattle.std.specs.Ordering.{int_eq}
 use Rattle.std.specs.Int.{w64, int_wrap, int_bit_and, int_bit_or, int_bit_xor, int_bit_not, int_shl, int_shr}
@@ -36,7 +36,7 @@ abbrev pub divided : ℤ → ℤ → ℤ → Result ℤ TrapKind
 divided x y value =
     if int_eq y (pos 0) then Err DivZero else (if int_eq x least && int_eq y (negsuc 0) then Err DivOver else Ok value)
 
--- what an operator gives of its two operands, or the trap
+-- the result of an operator on its two operands, or the trap
 abbrev pub binary_of : BinOp → ℤ → ℤ → Result ℤ TrapKind
 binary_of Or x y = Ok (truth (holds x || holds y))
 binary_of And x y = Ok (truth (holds x && holds y))

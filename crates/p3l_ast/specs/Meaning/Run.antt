@@ -1,4 +1,4 @@
--- What a plain program of statements may answer.
+-- Answers that a plain program of statements may give.
 use Rattle.std.specs.Prelude.{◌≡◌, Result, Ok, Err}
 use Rattle.p3l_base.specs.declared.outcome.TrapKind.{TrapKind}
 use Rattle.p3l_ast.specs.declared.meaning.stop.Stop.{Stop}

@@ -1,4 +1,4 @@
--- What statements make of a valuation, or the first trap.
+-- Effects of statements on a valuation, or the first trap.
 use Rattle.std.specs.Prelude.{◌≡◌, ℕ, zero, suc, List, Result, Ok, Err, if◌then◌else◌}
 use Rattle.p3l_base.specs.declared.outcome.TrapKind.{TrapKind}
 use Rattle.p3l_base.specs.declared.outcome.TrapKind.TheVariants.{Budget}

@@ -1,4 +1,4 @@
--- What the names of a body stand for.
+-- Valuations: the sizes and the words of the names of a body.
 use Rattle.std.specs.Prelude.{ℕ, ℤ, ◌+◌, ◌≤◌, pos, length, slice_index, List, [], Option, find, map, bytes_eq, slice_index_or, slice_set, Result, Ok, Err, nat_lt, if◌then◌else◌}
 use Rattle.std.specs.Option.{option_map_or}
 use Rattle.p3l_base.specs.Limits.{most_sizes, most_words}

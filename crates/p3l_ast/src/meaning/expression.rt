@@ -1,4 +1,4 @@
-// What expressions give in a valuation.
+// Values of expressions in a valuation.
 
 ghost use Rattle.std.specs.Prelude.{◌≡◌, ◌+◌, ◌*◌, ◌<◌, ◌^◌, Result, Ok, IfOk, drop, length, slice_index};
 ghost use Rattle.p3l_ast.specs.Tree.{phrase, phrases};

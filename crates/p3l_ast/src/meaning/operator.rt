@@ -1,4 +1,4 @@
-// What operators give.
+// Results of operators.
 
 ghost use Rattle.std.specs.Prelude.{◌≡◌, int_div, int_rem};
 ghost use Rattle.std.specs.Int.{w64, int_shl, int_shr};

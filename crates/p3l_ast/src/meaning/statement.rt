@@ -1,4 +1,4 @@
-// What statements make of a valuation: one function a form, which call one another.
+// Effects of statements on a valuation: one function per form, which call one another.
 
 ghost use Rattle.std.specs.Prelude.{◌≡◌, Ok, IfOk};
 ghost use Rattle.p3l_ast.specs.Tree.{phrase, phrases, one, statements, join, assign, done};

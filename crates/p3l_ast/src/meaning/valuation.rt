@@ -1,4 +1,4 @@
-// What the names of a body stand for.
+// Valuations: the sizes and the words of the names of a body.
 
 ghost use Rattle.std.specs.List.{All};
 ghost use Rattle.std.specs.Prelude.{◌≡◌, ◌↔◌, ◌≤◌, length, IsTrue};

@@ -8,10 +8,10 @@ use Rattle.p3l_farm.specs.Farm.{View, all_above, rising, all_rising, joined, to_
 use Rattle.p3l_template.specs.Bag.{read, numbered}
 use Rattle.p3l_template.specs.Lines.{lines_by}
 use Rattle.p3l_template.specs.Part.{Part, all_orderly}
-use Rattle.p3l_template.specs.Shape.{Base, Role, Seat, fan_seats}
+use Rattle.p3l_template.specs.Shape.{Base, Role, Slot, fan_slots}
 use Rattle.p3l_template.specs.Units.{Units}
 use Rattle.p3l_farm.specs.FarmKind.{found_by, farm_finds}
-use Rattle.p3l_template.specs.Finding.{Finding, bare, bares, pending_of, AreSeated, IsFoundShape}
+use Rattle.p3l_template.specs.Finding.{Finding, bare, bares, pending_of, AreSlots, IsFoundShape}
 use Rattle.p3l_template.specs.laws.BareLaw.{bares-bares, bares-length, bares-line, read-bare, numbered-bare}
 
 above-bare : (k : ℕ) (xs : List Token) → all_above k (bares xs) ≡ all_above k xs
@@ -54,17 +54,17 @@ module _ (v : View) where
       ap bares (ap₂ (λ z n. read z v.least n) (joined-bare v.lines) bag-length ∙ read-bare (joined v.lines) v.least (length (joined v.lines)))
       ∙ bares-bares (to_come v)
 
-lines-bare : (s : State) (seats : List Seat) (parts : List Part) → AreSeated seats parts →
-    lines_by s seats (map (pending_of s) parts) ≡ map bares (lines_of parts s)
-unfolding lines_by lines_of AreSeated
-lines-bare s [] [] seated = refl
-lines-bare s [] (P ∷ Ps) seated = absurd seated
-lines-bare s (x ∷ xs) [] seated = absurd seated
-lines-bare s (x ∷ xs) (P ∷ Ps) seated =
-    ap₂ (λ l ls. l ∷ ls) (sym (bares-line s P x.input x.output seated.0.0 seated.0.1)) (lines-bare s xs Ps seated.1)
+lines-bare : (s : State) (slots : List Slot) (parts : List Part) → AreSlots slots parts →
+    lines_by s slots (map (pending_of s) parts) ≡ map bares (lines_of parts s)
+unfolding lines_by lines_of AreSlots
+lines-bare s [] [] slotted = refl
+lines-bare s [] (P ∷ Ps) slotted = absurd slotted
+lines-bare s (x ∷ xs) [] slotted = absurd slotted
+lines-bare s (x ∷ xs) (P ∷ Ps) slotted =
+    ap₂ (λ l ls. l ∷ ls) (sym (bares-line s P x.input x.output slotted.0.0 slotted.0.1)) (lines-bare s xs Ps slotted.1)
 
 module _ (n : ℕ) (units : Units) (roles : ℕ → Role) (base : Base) (parts : List Part) (s : State)
-    (seated : AreSeated (fan_seats base.chan (base.chan + n) n) parts) where
+    (slotted : AreSlots (fan_slots base.chan (base.chan + n) n) parts) where
   seen-lines : farm_finds n units.tree base s (map (pending_of s) parts) ≡ found_by (seen (view_of base parts s))
   unfolding farm_finds
   seen-lines =
@@ -74,7 +74,7 @@ module _ (n : ℕ) (units : Units) (roles : ℕ → Role) (base : Base) (parts :
         lines = ls;
         input = [];
         output = [];
-      })) (lines-bare s (fan_seats base.chan (base.chan + n) n) parts seated)
+      })) (lines-bare s (fan_slots base.chan (base.chan + n) n) parts slotted)
 
   farm-orderly : (farm_part n units roles base parts).orderly s
       ≡ (all_orderly parts s && (farm_finds n units.tree base s (map (pending_of s) parts)).orderly)
@@ -90,6 +90,6 @@ pub farm_found : (node n : ℕ) → IsFoundShape (farm_shape node n) (farm_finds
 farm_found node n = record {
   orderly = farm-orderly n;
   pending = farm-pending n;
-  ends = λ units roles base parts seated. record { input = refl; output = refl; proc_to = refl; chan_to = refl };
+  ends = λ units roles base parts slotted. record { input = refl; output = refl; proc_to = refl; chan_to = refl };
   laid = λ cap base. length-replicate (n + n) _;
 }

@@ -11,7 +11,7 @@ use Rattle.p3l_firing.specs.Fire.{row_can, can_fire}
 use Rattle.p3l_firing.specs.Ways.{eyes_of, Deals, Collects, row_ways, MayFire}
 use Rattle.p3l_firing.specs.Lists.{first_or, rest_of, has_first}
 use Rattle.p3l_firing.specs.State.{State, has_room}
-use Rattle.p3l_firing.specs.Token.{over, newest_tag, peeled, tagged, has_trap, credit}
+use Rattle.p3l_firing.specs.Token.{over, newest_tag, untagged, tagged, has_trap, credit}
 use Rattle.p3l_firing.specs.declared.net.Net.{Net}
 use Rattle.p3l_firing.specs.declared.process.ProcKind.TheVariants.{Emit, Collect}
 use Rattle.p3l_firing.specs.declared.token.Token.{Token}
@@ -234,7 +234,7 @@ module _ (net : Net) (units : Units) (roles : ℕ → Role) (node n : ℕ) (pos 
 
   unfoldable collect_state : ℕ → State → State
   collect_state w s =
-      passed s (base.proc + 1) (base.chan + n + w) base.output (peeled (first_or credit (s.tokens (base.chan + n + w))))
+      passed s (base.proc + 1) (base.chan + n + w) base.output (untagged (first_or credit (s.tokens (base.chan + n + w))))
 
   module _ (s : State) (w : ℕ) (low : w < n) where
     emit_around : Around base n s (emit_state w s)
@@ -358,7 +358,7 @@ module _ (net : Net) (units : Units) (roles : ℕ → Role) (node n : ℕ) (pos 
     collect_in = passed_in s (base.proc + 1) (base.chan + n + w) base.output _ collect_apart
 
     collect_out : (collect_state w s).tokens base.output
-        ≡ s.tokens base.output ++ peeled (first_or credit (s.tokens (base.chan + n + w))) ∷ []
+        ≡ s.tokens base.output ++ untagged (first_or credit (s.tokens (base.chan + n + w))) ∷ []
     unfolding collect_state
     collect_out = passed_out s (base.proc + 1) (base.chan + n + w) base.output _ collect_apart
 
@@ -512,7 +512,7 @@ module _ (net : Net) (units : Units) (roles : ℕ → Role) (node n : ℕ) (pos 
   -- DRAIN
   module _ (s : State) (h : (farm_part n units roles base Ps).orderly s ≡ true)
       (quiet : (p : ℕ) → IsInside (farm_part n units roles base Ps) p → can_fire units.tree net s p ≡ false)
-      (calm : has_trap s.emitted ≡ false) (room : has_room net s base.output ≡ true) where
+      (untrapped : has_trap s.emitted ≡ false) (room : has_room net s base.output ≡ true) where
     parts_orderly : all_orderly Ps s ≡ true
     parts_orderly = (and_parts (all_orderly Ps s) (well_kept (view_of base Ps s)) h).0
 
@@ -523,7 +523,7 @@ module _ (net : Net) (units : Units) (roles : ℕ → Role) (node n : ℕ) (pos 
     unfolding row_can emit.can collect.can
     not_ready =
         right_false _ _ room
-        (cannot_at net units s (base.proc + 1) (collect_proc node n base) collect_stands calm
+        (cannot_at net units s (base.proc + 1) (collect_proc node n base) collect_stands untrapped
         (quiet (base.proc + 1) (record { from = omega arith; to = omega (arith, fan.all.procs) })))
       where
         right_false : (x y : Bool) → y ≡ true → (x && y) ≡ false → x ≡ false
@@ -540,7 +540,7 @@ module _ (net : Net) (units : Units) (roles : ℕ → Role) (node n : ℕ) (pos 
 
     worker_drained : (w : ℕ) → w < n → s.tokens (base.chan + n + w) ≡ [] → IsDrained (get_or Ps w no_part) s
     worker_drained =
-        fan_drained net units roles n base Ps fan (farmed n) s placed.chans parts_orderly quiet calm
+        fan_drained net units roles n base Ps fan (farmed n) s placed.chans parts_orderly quiet untrapped
 
     -- no line begins with the number that is expected
     no_line : (w : ℕ) → w < n → front_is (s.own (base.proc + 1)).number (line (get_or Ps w no_part) s) ≡ false
@@ -576,7 +576,7 @@ module _ (net : Net) (units : Units) (roles : ℕ → Role) (node n : ℕ) (pos 
     emit_cannot : (has_first (s.tokens base.input) && is_some (emptiest net s (numbers_from base.chan n))) ≡ false
     unfolding row_can emit.can collect.can
     emit_cannot =
-        cannot_at net units s base.proc (emit_proc node n base) emit_stands calm
+        cannot_at net units s base.proc (emit_proc node n base) emit_stands untrapped
         (quiet base.proc (record { from = le_refl _; to = omega (arith, fan.all.procs) }))
 
     emit_waits : s.tokens base.input ≡ []
@@ -627,7 +627,7 @@ module _ (net : Net) (units : Units) (roles : ℕ → Role) (node n : ℕ) (pos 
         };
     work = λ s t p i way h. (farm_right s t p i way h).work;
     size = farm_size;
-    drain = λ s h quiet calm room. farm_drained s h quiet calm room;
+    drain = λ s h quiet untrapped room. farm_drained s h quiet untrapped room;
   }
 
 pub farm_lawful : (node n : ℕ) → 0 < n → IsLawfulShape (farm_shape node n)

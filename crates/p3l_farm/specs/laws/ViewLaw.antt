@@ -1,13 +1,13 @@
--- What Emit and Collect do to what a farm shows. Emit numbers a token and sends it to any worker (`emit_goes`),
--- Collect takes the one that is expected from any worker (`collect_goes`): the list stays, each
--- line goes on rising. Where no line begins with the number that is expected, no token is left
+-- Effects of Emit and Collect on the view of a farm. Emit numbers a token and sends it to any worker (`emit_goes`).
+-- Collect takes the expected token from any worker (`collect_goes`): the list is unchanged, and the numbers on each
+-- line still rise. If no line begins with the expected number, no token is left
 -- (`none_ready`).
 use Rattle.std.proofs.Common.{◌≡◌, ℕ, zero, suc, ◌+◌, ◌≤◌, ◌<◌, inl, inr, true, false, List, [], ◌∷◌, ◌++◌, map, length, get_or, refl, sym, ap, ap₂, ◌∙◌, subst, arith, append_assoc, length-append, eqb-true, eq-eqb, lt-ltb, ltb-true}
 use Rattle.std.proofs.lemmas.Bool.{cases_lt, cases_eq, and_parts, and_from}
 use Rattle.p3l_base.specs.declared.outcome.Outcome.{Outcome}
 use Rattle.p3l_farm.specs.Farm.{all_above, rising, all_rising, joined, View, to_come, well_kept}
 use Rattle.p3l_firing.specs.Lists.{rest_of}
-use Rattle.p3l_firing.specs.Token.{over, newest_tag, peeled, tagged, first_tag, later_tags}
+use Rattle.p3l_firing.specs.Token.{over, newest_tag, untagged, tagged, first_tag, later_tags}
 use Rattle.p3l_firing.specs.declared.token.Token.{Token}
 use Rattle.p3l_firing.specs.kinds.Collect.{front_is}
 use Rattle.p3l_template.specs.Bag.{look, read, IsNumbered}
@@ -20,7 +20,7 @@ change w f [] = []
 change zero f (l ∷ ls) = f l ∷ ls
 change (suc w) f (l ∷ ls) = l ∷ change w f ls
 
--- what is before and after line w
+-- the tokens before and after line w
 pub record Split (w : ℕ) (ls : List (List Token)) : Type 0 where
   pub before : List Token
   pub after : List Token
@@ -154,7 +154,7 @@ pub record Goes (m : Outcome → Outcome) (v w : View) : Type 0 where
   pub kept : Kept w
   pub line : view_line m w ≡ view_line m v
 
--- where no line begins with the number that is expected, no token is left
+-- no token is left if no line begins with the number that is expected
 pub none_ready : (v : View) → Kept v → ((w : ℕ) → w < length v.lines → front_is v.least (get_or v.lines w []) ≡ false) →
     joined v.lines ≡ []
 none_ready v k e =
@@ -177,9 +177,9 @@ module _ (m : Outcome → Outcome) (v : View) (k : Kept v) where
   unfolding first_tag
   new_turn x = refl
 
-  new_peeled : (x : Token) → peeled (over m (tagged v.next x)) ≡ over m x
+  new_untagged : (x : Token) → untagged (over m (tagged v.next x)) ≡ over m x
   unfolding later_tags
-  new_peeled x = refl
+  new_untagged x = refl
 
   module _ (w : ℕ) (s : Split w v.lines) where
     abbrev here : List Token
@@ -224,7 +224,7 @@ module _ (m : Outcome → Outcome) (v : View) (k : Kept v) where
               ap (λ z. v.output ++ (read z v.least (length z) ++ map (over m) xs)) b
               ∙ ap (λ z. v.output ++ (z ++ map (over m) xs))
               (insert_read (s.before ++ here) (over m (tagged v.next x)) s.after v.least n t
-              ∙ ap₂ (λ y z. read y v.least (length y) ++ z ∷ []) (sym bag_now) (new_peeled x))
+              ∙ ap₂ (λ y z. read y v.least (length y) ++ z ∷ []) (sym bag_now) (new_untagged x))
               ∙ ap (λ z. v.output ++ z) (append_assoc (read (joined v.lines) v.least (length (joined v.lines))) _ _)
               ∙ ap (λ z. v.output
               ++ (read (joined v.lines) v.least (length (joined v.lines)) ++ map (over m) z)) (sym e);
@@ -236,7 +236,7 @@ module _ (m : Outcome → Outcome) (v : View) (k : Kept v) where
 
   -- Collect takes the token x, which is expected, from worker w
   abbrev pub collect_view : ℕ → Token → View
-  collect_view w x = record v { least = v.least + 1; lines = change w rest_of v.lines; output = v.output ++ peeled x ∷ [] }
+  collect_view w x = record v { least = v.least + 1; lines = change w rest_of v.lines; output = v.output ++ untagged x ∷ [] }
 
   module _ (w : ℕ) (s : Split w v.lines) (x : Token) (xs : List Token) (e : get_or v.lines w [] ≡ x ∷ xs)
       (d : newest_tag x ≡ v.least) where
@@ -263,7 +263,7 @@ module _ (m : Outcome → Outcome) (v : View) (k : Kept v) where
             rising = rising_change w rest_of v.lines k.rising (rising_rest _ (rising_at w v.lines k.rising));
           };
           line =
-              ap₂ (λ y z. (v.output ++ peeled x ∷ []) ++ (read y z (length y) ++ map (over m) v.input)) bag_to up
+              ap₂ (λ y z. (v.output ++ untagged x ∷ []) ++ (read y z (length y) ++ map (over m) v.input)) bag_to up
               ∙ append_assoc v.output _ _
               ∙ ap (λ z. v.output ++ (z ++ map (over m) v.input))
               (sym (release_read s.before x (xs ++ s.after) v.least n d))

@@ -10,8 +10,8 @@ use Rattle.p3l_firing.specs.declared.process.ProcKind.TheVariants.{Collect}
 use Rattle.p3l_firing.specs.declared.net.Net.{Net}
 use Rattle.p3l_firing.specs.declared.token.Token.{Token}
 use Rattle.p3l_firing.specs.Lists.{has_first}
-use Rattle.p3l_firing.specs.Token.{peeled}
-use Rattle.p3l_firing.specs.State.{Own, State, front, pop, push, set_own, counted, has_room, with_rest}
+use Rattle.p3l_firing.specs.Token.{untagged}
+use Rattle.p3l_firing.specs.State.{LocalState, State, front, pop, push, set_own, counted, has_room, with_rest}
 use Rattle.p3l_firing.specs.Process.{Has, IsAt, out_of}
 use Rattle.p3l_firing.specs.Widths.{Widths, Carries, FitsToken}
 use Rattle.p3l_firing.specs.Typed.{IsFitting}
@@ -57,11 +57,11 @@ due_full s n (c ∷ cs) d e =
 pub own_reads : (tree : Tree) (widths : Widths) (q : Proc) → Fits tree widths q → AllByRecursion (IsAt (Some q)) (reads q)
 own_reads tree widths q fits_q = (inr (first_in q.outs fits_q.outs), has-each q.ins q.ins (λ c h. h) (IsAt (Some q)) (λ c h. inl h))
 
-pub alike : (net : Net) (s t : State) (o : Own) (q : Proc) → SameIn s t (reads q) → can net s o q ≡ can net t o q
+pub alike : (net : Net) (s t : State) (o : LocalState) (q : Proc) → SameIn s t (reads q) → can net s o q ≡ can net t o q
 unfolding can
 alike net s t o q same = ap₂ (λ a b. a && b) (ap is_some (due-same s t o.number q.ins same.1)) (room-same net s t _ same.0)
 
-taken_from-rest : (c : Option ℕ) (s : State) (rest : List (List ℤ)) (p : ℕ) (o : Own) (q : Proc) → taken_from c (with_rest s rest) p o q ≡ with_rest (taken_from c s p o q) rest
+taken_from-rest : (c : Option ℕ) (s : State) (rest : List (List ℤ)) (p : ℕ) (o : LocalState) (q : Proc) → taken_from c (with_rest s rest) p o q ≡ with_rest (taken_from c s p o q) rest
 unfolding taken_from with_rest push pop set_own
 taken_from-rest None s rest p o q = refl
 taken_from-rest (Some c) s rest p o q = refl
@@ -70,20 +70,20 @@ same_with_rest : (s : State) (rest : List (List ℤ)) (cs : List ℕ) → SameIn
 unfolding with_rest
 same_with_rest s rest cs = same-everywhere (with_rest s rest) s (λ c. refl) cs
 
-pub rest_stays : (s : State) (rest : List (List ℤ)) (p : ℕ) (o : Own) (q : Proc) → fire (with_rest s rest) p o q ≡ with_rest (fire s p o q) rest
+pub rest_stays : (s : State) (rest : List (List ℤ)) (p : ℕ) (o : LocalState) (q : Proc) → fire (with_rest s rest) p o q ≡ with_rest (fire s p o q) rest
 unfolding fire
 rest_stays s rest p o q =
     ap (λ c. taken_from c (with_rest s rest) p o q) (due-same (with_rest s rest) s o.number q.ins (same_with_rest s rest q.ins))
     ∙ taken_from-rest (due_in s o.number q.ins) s rest p o q
 
-module _ {tree : Tree} {net : Net} {widths : Widths} (s : State) (p : ℕ) (o : Own) (q : Proc) (fit : IsFitting tree net widths s) (stands : slice_get net.procs p ≡ Some q) (kind : q.kind ≡ Collect) (fits_q : Fits tree widths q) where
+module _ {tree : Tree} {net : Net} {widths : Widths} (s : State) (p : ℕ) (o : LocalState) (q : Proc) (fit : IsFitting tree net widths s) (stands : slice_get net.procs p ≡ Some q) (kind : q.kind ≡ Collect) (fits_q : Fits tree widths q) where
   pub taken_fits : (c : ℕ) → Has q.ins c → has_first (s.tokens c) ≡ true → has_room net s (out_of q 0) ≡ true → o.held ≡ [] → IsFitting tree net widths (taken_from (Some c) s p o q)
   unfolding taken_from
   taken_fits c among full room none =
       let token : FitsToken widths c (front s c) = front_fits s fit c full in
       let carries : Carries widths c (node_at tree q.node).outs (widths.tags (out_of q 0) + 1) = all-has _ q.ins fits_q.takes c among in
       fitting-own _
-      (fitting-push (pop s c) (fitting-pop s fit c) (out_of q 0) (peeled (front s c)) (room-pop net s c (out_of q 0) room)
+      (fitting-push (pop s c) (fitting-pop s fit c) (out_of q 0) (untagged (front s c)) (room-pop net s c (out_of q 0) room)
       (record {
         words = subst (λ n. HasLength n (front s c).body) (carries.words ∙ sym fits_q.gives) token.words;
         tags = later_long (front s c).tags (widths.tags (out_of q 0)) (token.tags ∙ carries.tags);

@@ -10,7 +10,7 @@ use Rattle.p3l_firing.specs.declared.process.ProcKind.TheVariants.{Emit}
 use Rattle.p3l_firing.specs.declared.net.Net.{Net}
 use Rattle.p3l_firing.specs.Lists.{has_first}
 use Rattle.p3l_firing.specs.Token.{tagged}
-use Rattle.p3l_firing.specs.State.{Own, State, front, pop, push, set_own, counted, has_room, with_rest}
+use Rattle.p3l_firing.specs.State.{LocalState, State, front, pop, push, set_own, counted, has_room, with_rest}
 use Rattle.p3l_firing.specs.Process.{Has, IsAt, in_of}
 use Rattle.p3l_firing.specs.Widths.{Widths, Carries, FitsToken}
 use Rattle.p3l_firing.specs.Typed.{IsFitting}
@@ -89,7 +89,7 @@ pub alike : (net : Net) (s t : State) (q : Proc) → SameIn s t (reads q) → ca
 unfolding can
 alike net s t q same = ap₂ (λ a b. a && b) (ap has_first same.0) (ap is_some (emptiest-same net s t q.outs same.1))
 
-sent_to-rest : (c : Option ℕ) (s : State) (rest : List (List ℤ)) (p : ℕ) (o : Own) (q : Proc) → sent_to c (with_rest s rest) p o q ≡ with_rest (sent_to c s p o q) rest
+sent_to-rest : (c : Option ℕ) (s : State) (rest : List (List ℤ)) (p : ℕ) (o : LocalState) (q : Proc) → sent_to c (with_rest s rest) p o q ≡ with_rest (sent_to c s p o q) rest
 unfolding sent_to with_rest push pop set_own
 sent_to-rest None s rest p o q = refl
 sent_to-rest (Some c) s rest p o q = refl
@@ -98,18 +98,18 @@ same_with_rest : (s : State) (rest : List (List ℤ)) (cs : List ℕ) → SameIn
 unfolding with_rest
 same_with_rest s rest cs = same-everywhere (with_rest s rest) s (λ c. refl) cs
 
-pub rest_stays : (net : Net) (s : State) (rest : List (List ℤ)) (p : ℕ) (o : Own) (q : Proc) → fire net (with_rest s rest) p o q ≡ with_rest (fire net s p o q) rest
+pub rest_stays : (net : Net) (s : State) (rest : List (List ℤ)) (p : ℕ) (o : LocalState) (q : Proc) → fire net (with_rest s rest) p o q ≡ with_rest (fire net s p o q) rest
 unfolding fire
 rest_stays net s rest p o q =
     ap (λ c. sent_to c (with_rest s rest) p o q) (emptiest-same net (with_rest s rest) s q.outs (same_with_rest s rest q.outs))
     ∙ sent_to-rest (emptiest net s q.outs) s rest p o q
 
--- what is there is some one
+-- an option that is some has an element
 pub some_one : {A : Type 0} (o : Option A) → is_some o ≡ true → (x : A) × (o ≡ Some x)
 some_one None h = cc
 some_one (Some x) h = (x, refl)
 
-module _ {tree : Tree} {net : Net} {widths : Widths} (s : State) (p : ℕ) (o : Own) (q : Proc) (fit : IsFitting tree net widths s) (stands : slice_get net.procs p ≡ Some q) (kind : q.kind ≡ Emit) (fits_q : Fits tree widths q) where
+module _ {tree : Tree} {net : Net} {widths : Widths} (s : State) (p : ℕ) (o : LocalState) (q : Proc) (fit : IsFitting tree net widths s) (stands : slice_get net.procs p ≡ Some q) (kind : q.kind ≡ Emit) (fits_q : Fits tree widths q) where
   pub sent_fits : (c : ℕ) → has_first (s.tokens (in_of q 0)) ≡ true → Has q.outs c → has_room net s c ≡ true → o.held ≡ [] → IsFitting tree net widths (sent_to (Some c) s p o q)
   unfolding sent_to
   sent_fits c full among room none =

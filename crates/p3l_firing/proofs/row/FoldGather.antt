@@ -14,7 +14,7 @@ use Rattle.p3l_firing.specs.declared.token.Token.{Token}
 use Rattle.p3l_firing.specs.Lists.{has_first, first_or}
 use Rattle.p3l_firing.specs.Token.{credit, bodies}
 use Rattle.p3l_firing.specs.Nodes.{Leaf, fold_of}
-use Rattle.p3l_firing.specs.State.{Own, State, front, pop, push, set_own, gathering, released, has_room, with_rest}
+use Rattle.p3l_firing.specs.State.{LocalState, State, front, pop, push, set_own, gathering, released, has_room, with_rest}
 use Rattle.p3l_firing.specs.Process.{IsAt, out_of}
 use Rattle.p3l_firing.specs.Widths.{Widths, Carries, HasWidth}
 use Rattle.p3l_firing.specs.Typed.{IsFitting}
@@ -30,7 +30,7 @@ use Rattle.p3l_firing.proofs.row.Gather.{longer_has_first}
 pub own_reads : (tree : Tree) (widths : Widths) (q : Proc) → Fits tree widths q → AllByRecursion (IsAt (Some q)) (reads q)
 own_reads tree widths q fits_q = (inr (first_in q.outs fits_q.outs), has-each q.ins q.ins (λ c h. h) (IsAt (Some q)) (λ c h. inl h))
 
-pub alike : (net : Net) (s t : State) (o : Own) (q : Proc) → SameIn s t (reads q) → can net s o q ≡ can net t o q
+pub alike : (net : Net) (s t : State) (o : LocalState) (q : Proc) → SameIn s t (reads q) → can net s o q ≡ can net t o q
 unfolding can is_full
 alike net s t o q same = next (is_full o q) refl
   where
@@ -38,7 +38,7 @@ alike net s t o q same = next (is_full o q) refl
     next true e = room-same net s t _ same.0
     next false e = ap has_first (all-nth (λ c. s.tokens c ≡ t.tokens c) q.ins same.1 (length o.held) (leb-false _ _ e))
 
-pub rest_stays : (tree : Tree) (leaf : Leaf) (s : State) (rest : List (List ℤ)) (p : ℕ) (o : Own) (q : Proc) → fire tree leaf (with_rest s rest) p o q ≡ with_rest (fire tree leaf s p o q) rest
+pub rest_stays : (tree : Tree) (leaf : Leaf) (s : State) (rest : List (List ℤ)) (p : ℕ) (o : LocalState) (q : Proc) → fire tree leaf (with_rest s rest) p o q ≡ with_rest (fire tree leaf s p o q) rest
 unfolding fire fold_sent with_rest push pop set_own
 rest_stays tree leaf s rest p o q = with_rest-cond (is_full o q) (fold_sent tree leaf s p o q) (set_own (pop s (line_of o q)) p (gathering o (front s (line_of o q)))) rest
 
@@ -82,7 +82,7 @@ unfolding bodies
 bodies_some n [] h = absurd (omega (arith, h))
 bodies_some n (x ∷ xs) h = omega arith
 
-module _ {tree : Tree} {net : Net} {widths : Widths} (leaf : Leaf) (lawful : IsLawfulTree tree) (gives : GivesOuts tree leaf) (s : State) (p : ℕ) (o : Own) (q : Proc) (fit : IsFitting tree net widths s) (stands : slice_get net.procs p ≡ Some q) (kind : q.kind ≡ FoldGather) (fits_q : Fits tree widths q) where
+module _ {tree : Tree} {net : Net} {widths : Widths} (leaf : Leaf) (lawful : IsLawfulTree tree) (gives : GivesOuts tree leaf) (s : State) (p : ℕ) (o : LocalState) (q : Proc) (fit : IsFitting tree net widths s) (stands : slice_get net.procs p ≡ Some q) (kind : q.kind ≡ FoldGather) (fits_q : Fits tree widths q) where
   sent_fits : is_full o q ≡ true → has_room net s (out_of q 0) ≡ true → Keeps tree widths q o → IsFitting tree net widths (fold_sent tree leaf s p o q)
   unfolding fold_sent is_full fold_of
   sent_fits full room keeps =

@@ -20,7 +20,7 @@ use Rattle.p3l_firing.specs.declared.net.Net.{Net}
 use Rattle.p3l_firing.specs.Lists.{has_first, first_or}
 use Rattle.p3l_firing.specs.Token.{credit, bodies}
 use Rattle.p3l_firing.specs.Nodes.{cut_of, joined_of}
-use Rattle.p3l_firing.specs.State.{Own, State, front, pop, push, set_own, gathering, released, has_room, with_rest}
+use Rattle.p3l_firing.specs.State.{LocalState, State, front, pop, push, set_own, gathering, released, has_room, with_rest}
 use Rattle.p3l_firing.specs.Process.{Has, IsAt, out_of}
 use Rattle.p3l_firing.specs.Widths.{Widths, Carries, HasWidth}
 use Rattle.p3l_firing.specs.Typed.{IsFitting}
@@ -33,18 +33,18 @@ use Rattle.p3l_firing.proofs.Fitting.{fitting-push, fitting-pop, fitting-own, fr
 use Rattle.p3l_firing.proofs.row.Scatter.{some_workers}
 
 -- the channel of the next result is one of those of the workers
-pub line_among : {tree : Tree} {widths : Widths} (o : Own) (q : Proc) → Fits tree widths q → Has q.ins (line_of o q)
+pub line_among : {tree : Tree} {widths : Widths} (o : LocalState) (q : Proc) → Fits tree widths q → Has q.ins (line_of o q)
 line_among {tree = tree} o q fits_q =
     has-nth q.ins (length o.held % length q.ins) (mod_less (length o.held) (length q.ins) (some_workers (node_at tree q.node).form (length q.ins) fits_q.form fits_q.count))
 
-pub own_reads : (tree : Tree) (widths : Widths) (o : Own) (q : Proc) → Fits tree widths q → AllByRecursion (IsAt (Some q)) (reads o q)
+pub own_reads : (tree : Tree) (widths : Widths) (o : LocalState) (q : Proc) → Fits tree widths q → AllByRecursion (IsAt (Some q)) (reads o q)
 own_reads tree widths o q fits_q = (inr (first_in q.outs fits_q.outs), (inl (line_among o q fits_q), tt))
 
-pub alike : (tree : Tree) (net : Net) (s t : State) (o : Own) (q : Proc) → SameIn s t (reads o q) → can tree net s o q ≡ can tree net t o q
+pub alike : (tree : Tree) (net : Net) (s t : State) (o : LocalState) (q : Proc) → SameIn s t (reads o q) → can tree net s o q ≡ can tree net t o q
 unfolding can
 alike tree net s t o q same = ap₂ (λ a b. cond (is_full tree o q) a b) (room-same net s t _ same.0) (ap has_first same.1.0)
 
-pub rest_stays : (tree : Tree) (s : State) (rest : List (List ℤ)) (p : ℕ) (o : Own) (q : Proc) → fire tree (with_rest s rest) p o q ≡ with_rest (fire tree s p o q) rest
+pub rest_stays : (tree : Tree) (s : State) (rest : List (List ℤ)) (p : ℕ) (o : LocalState) (q : Proc) → fire tree (with_rest s rest) p o q ≡ with_rest (fire tree s p o q) rest
 unfolding fire whole_sent with_rest push pop set_own
 rest_stays tree s rest p o q = with_rest-cond (is_full tree o q) (whole_sent tree s p o q) (set_own (pop s (line_of o q)) p (gathering o (front s (line_of o q)))) rest
 
@@ -53,7 +53,7 @@ length-arrays_words results second [] at = refl
 length-arrays_words results second (s ∷ ss) at =
     omega (arith, length-append (array_words (result_word results second) s.dims 0 0 at) (arrays_words results second ss (at + cut_size s.dims)), length-array_words (result_word results second) s.dims 0 0 at, length-arrays_words results second ss (at + cut_size s.dims))
 
--- what is joined to n words, whatever the results
+-- gathered outcomes have n words if each join has n words, whatever the results
 gathered_long : (join : List (List ℤ) → List ℤ) (n : ℕ) (outcomes : List Outcome) → ((results : List (List ℤ)) → length (join results) ≡ n) → HasLength n (gathered join outcomes)
 gathered_long join n [] long = long []
 gathered_long join n (Trapped trap ∷ outcomes) long = tt
@@ -72,7 +72,7 @@ pub longer_has_first : {A : Type 0} (xs : List A) (n : ℕ) → n < length xs �
 longer_has_first [] n h = absurd (omega (arith, h))
 longer_has_first (x ∷ xs) n h = refl
 
-module _ {tree : Tree} {net : Net} {widths : Widths} (lawful : IsLawfulTree tree) (s : State) (p : ℕ) (o : Own) (q : Proc) (fit : IsFitting tree net widths s) (stands : slice_get net.procs p ≡ Some q) (kind : q.kind ≡ Gather) (fits_q : Fits tree widths q) where
+module _ {tree : Tree} {net : Net} {widths : Widths} (lawful : IsLawfulTree tree) (s : State) (p : ℕ) (o : LocalState) (q : Proc) (fit : IsFitting tree net widths s) (stands : slice_get net.procs p ≡ Some q) (kind : q.kind ≡ Gather) (fits_q : Fits tree widths q) where
   sent_fits : is_full tree o q ≡ true → has_room net s (out_of q 0) ≡ true → Keeps tree widths q o → IsFitting tree net widths (whole_sent tree s p o q)
   unfolding whole_sent is_full
   sent_fits full room keeps =

@@ -9,7 +9,7 @@ use Rattle.p3l_firing.specs.declared.process.ProcKind.TheVariants.{Head}
 use Rattle.p3l_firing.specs.declared.net.Net.{Net}
 use Rattle.p3l_firing.specs.Lists.{has_first}
 use Rattle.p3l_firing.specs.Token.{admitted}
-use Rattle.p3l_firing.specs.State.{Own, State, front, pop, push, set_own, counted, has_room, with_rest}
+use Rattle.p3l_firing.specs.State.{LocalState, State, front, pop, push, set_own, counted, has_room, with_rest}
 use Rattle.p3l_firing.specs.Process.{IsAt, in_of, out_of}
 use Rattle.p3l_firing.specs.Widths.{Widths, FitsToken}
 use Rattle.p3l_firing.specs.Typed.{IsFitting}
@@ -32,16 +32,16 @@ unfolding can
 alike net s t q same =
     ap₂ (λ a b. a && b) (room-same net s t _ same.0) (ap₂ (λ a b. a || b) (ap has_first same.1.0) (ap₂ (λ a b. a && b) (ap has_first same.1.1.0) (ap has_first same.1.1.1.0)))
 
-pub rest_stays : (s : State) (rest : List (List ℤ)) (p : ℕ) (o : Own) (q : Proc) → fire (with_rest s rest) p o q ≡ with_rest (fire s p o q) rest
+pub rest_stays : (s : State) (rest : List (List ℤ)) (p : ℕ) (o : LocalState) (q : Proc) → fire (with_rest s rest) p o q ≡ with_rest (fire s p o q) rest
 unfolding fire sent_round let_in with_rest push pop set_own
 rest_stays s rest p o q = with_rest-cond (has_first (s.tokens (in_of q 1))) (sent_round s q) (let_in s p o q) rest
 
--- where nothing comes back, one comes in and a credit is left
+-- one comes in and a credit is left if nothing comes back
 pub comes_in : (a b c : Bool) → a ≡ false → (a || (b && c)) ≡ true → (b ≡ true) × (c ≡ true)
 comes_in true b c e h = cc
 comes_in false b c e h = and_parts b c h
 
-module _ {tree : Tree} {net : Net} {widths : Widths} (s : State) (p : ℕ) (o : Own) (q : Proc) (fit : IsFitting tree net widths s) (stands : slice_get net.procs p ≡ Some q) (kind : q.kind ≡ Head) (fits_q : Fits tree widths q) (room : has_room net s (out_of q 0) ≡ true) where
+module _ {tree : Tree} {net : Net} {widths : Widths} (s : State) (p : ℕ) (o : LocalState) (q : Proc) (fit : IsFitting tree net widths s) (stands : slice_get net.procs p ≡ Some q) (kind : q.kind ≡ Head) (fits_q : Fits tree widths q) (room : has_room net s (out_of q 0) ≡ true) where
   pub round_fits : has_first (s.tokens (in_of q 1)) ≡ true → IsFitting tree net widths (sent_round s q)
   unfolding sent_round
   round_fits full =
@@ -60,7 +60,7 @@ module _ {tree : Tree} {net : Net} {widths : Widths} (s : State) (p : ℕ) (o : 
       (fits_width _ fits_q.gives (record { words = subst (λ n. HasLength n (front s (in_of q 0)).body) fits_q.takes token.words; tags = omega (arith, long) })))
       p q Head (counted o) stands kind none
 
-module _ {tree : Tree} {net : Net} {widths : Widths} (s : State) (p : ℕ) (o : Own) (q : Proc) (fit : IsFitting tree net widths s) (stands : slice_get net.procs p ≡ Some q) (kind : q.kind ≡ Head) (fits_q : Fits tree widths q) where
+module _ {tree : Tree} {net : Net} {widths : Widths} (s : State) (p : ℕ) (o : LocalState) (q : Proc) (fit : IsFitting tree net widths s) (stands : slice_get net.procs p ≡ Some q) (kind : q.kind ≡ Head) (fits_q : Fits tree widths q) where
   pub fits : can net s q ≡ true → o.held ≡ [] → IsFitting tree net widths (fire s p o q)
   unfolding can fire
   fits h none =

@@ -38,7 +38,7 @@ pub rest_stays : (tree : Tree) (leaf : Leaf) (s : State) (rest : List (List ℤ)
 unfolding fire with_rest pop push
 rest_stays tree leaf s rest q = refl
 
--- what a run takes is what its node may take
+-- the words that a run takes are words that its node may take
 pub takes_fits : (tree : Tree) (form : Form) (ins outs arg n : ℕ) (parts : List ℕ) → IsSize ins → IsLawfulForm tree form ins outs parts → Takes form ins arg n → FitsForm form ins n
 takes_fits tree Seq ins outs arg n parts sized lawful takes = takes.1
 takes_fits tree Comp ins outs arg n parts sized lawful takes = takes.1
@@ -53,7 +53,7 @@ takes_fits tree (Reduce workers len elem) ins outs arg n (p ∷ (r ∷ parts)) s
 takes_fits tree (Loop turns tokens) ins outs arg n parts sized lawful takes = absurd takes
 
 module _ (tree : Tree) (leaf : Leaf) (lawful : IsLawfulTree tree) (gives : GivesOuts tree leaf) (widths : Widths) (q : Proc) (fits_q : Fits tree widths q) where
-  -- what its node makes of a value has the node's out words
+  -- the outcome of its node on a value has the node's out words
   pub run_gives : (outcome : Outcome) → HasLength (widths.words (in_of q 0)) outcome → HasLength (node_at tree q.node).outs (outcome_of tree leaf q.node outcome)
   run_gives (Value words) long =
       let node = lawful_at tree lawful q.node fits_q.node in

@@ -20,7 +20,7 @@ use Rattle.p3l_firing.specs.declared.token.Token.{Token}
 use Rattle.p3l_firing.specs.Lists.{has_first, first_or}
 use Rattle.p3l_firing.specs.Token.{credit, over}
 use Rattle.p3l_firing.specs.Nodes.{cut_of, last_element, element_of}
-use Rattle.p3l_firing.specs.State.{Own, State, front, pop, push, set_own, counted, holding, fresh, has_room, with_rest}
+use Rattle.p3l_firing.specs.State.{LocalState, State, front, pop, push, set_own, counted, holding, fresh, has_room, with_rest}
 use Rattle.p3l_firing.specs.Process.{Has, IsAt, in_of}
 use Rattle.p3l_firing.specs.Widths.{Widths, Carries, FitsToken}
 use Rattle.p3l_firing.specs.Typed.{IsFitting}
@@ -39,18 +39,18 @@ some_workers form {workers = workers} {cut = cut} n e count =
     omega (arith, some)
 
 -- the channel of the next element is one of those of the workers
-pub line_among : {tree : Tree} {widths : Widths} (o : Own) (q : Proc) → Fits tree widths q → Has q.outs (line_of o q)
+pub line_among : {tree : Tree} {widths : Widths} (o : LocalState) (q : Proc) → Fits tree widths q → Has q.outs (line_of o q)
 line_among {tree = tree} o q fits_q =
     has-nth q.outs (o.number % length q.outs) (mod_less o.number (length q.outs) (some_workers (node_at tree q.node).form (length q.outs) fits_q.form fits_q.count))
 
-pub own_reads : (tree : Tree) (widths : Widths) (o : Own) (q : Proc) → Fits tree widths q → AllByRecursion (IsAt (Some q)) (reads o q)
+pub own_reads : (tree : Tree) (widths : Widths) (o : LocalState) (q : Proc) → Fits tree widths q → AllByRecursion (IsAt (Some q)) (reads o q)
 own_reads tree widths o q fits_q = (inl (first_in q.ins fits_q.ins), (inr (line_among o q fits_q), tt))
 
-pub alike : (net : Net) (s t : State) (o : Own) (q : Proc) → SameIn s t (reads o q) → can net s o q ≡ can net t o q
+pub alike : (net : Net) (s t : State) (o : LocalState) (q : Proc) → SameIn s t (reads o q) → can net s o q ≡ can net t o q
 unfolding can
 alike net s t o q same = ap₂ (λ a b. cond (has_first o.held) a b) (room-same net s t _ same.1.0) (ap has_first same.0)
 
-pub rest_stays : (tree : Tree) (s : State) (rest : List (List ℤ)) (p : ℕ) (o : Own) (q : Proc) → fire tree (with_rest s rest) p o q ≡ with_rest (fire tree s p o q) rest
+pub rest_stays : (tree : Tree) (s : State) (rest : List (List ℤ)) (p : ℕ) (o : LocalState) (q : Proc) → fire tree (with_rest s rest) p o q ≡ with_rest (fire tree s p o q) rest
 unfolding fire element_sent with_rest push pop set_own
 rest_stays tree s rest p o q = with_rest-cond (has_first o.held) (element_sent tree s p o q) (set_own (pop s (in_of q 0)) p (holding (front s (in_of q 0)))) rest
 
@@ -63,7 +63,7 @@ element_long tree lawful q fits_q k (Value words) =
     length-element_words cut.ins cut.second words k ∙ (ap (λ (f : Form). element_size (cut_of f).ins) fits_q.form ∙ map.cuts.part_ins_fit)
 element_long tree lawful q fits_q k (Trapped trap) = tt
 
-module _ {tree : Tree} {net : Net} {widths : Widths} (lawful : IsLawfulTree tree) (s : State) (p : ℕ) (o : Own) (q : Proc) (fit : IsFitting tree net widths s) (stands : slice_get net.procs p ≡ Some q) (kind : q.kind ≡ Scatter) (fits_q : Fits tree widths q) where
+module _ {tree : Tree} {net : Net} {widths : Widths} (lawful : IsLawfulTree tree) (s : State) (p : ℕ) (o : LocalState) (q : Proc) (fit : IsFitting tree net widths s) (stands : slice_get net.procs p ≡ Some q) (kind : q.kind ≡ Scatter) (fits_q : Fits tree widths q) where
   kept : (b : Bool) → nat_lt o.number (last_element tree q.node) ≡ b → Keeps tree widths q o → Keeps tree widths q (cond b (counted o) fresh)
   kept true more keeps = let less = ltb-true _ _ more in record { held = keeps.held; number = λ full. omega (arith, less) }
   kept false more keeps = record { held = tt; number = λ full. cc }

@@ -17,7 +17,7 @@ use Rattle.p3l_firing.specs.Lists.{has_first, first_or}
 use Rattle.p3l_firing.specs.Token.{credit, over}
 use Rattle.p3l_firing.specs.Segments.{segment_length, segment_words}
 use Rattle.p3l_firing.specs.Nodes.{elem_of, segment_of}
-use Rattle.p3l_firing.specs.State.{Own, State, front, pop, push, set_own, counted, holding, fresh, has_room, with_rest}
+use Rattle.p3l_firing.specs.State.{LocalState, State, front, pop, push, set_own, counted, holding, fresh, has_room, with_rest}
 use Rattle.p3l_firing.specs.Process.{IsAt, in_of, out_of}
 use Rattle.p3l_firing.specs.Widths.{Widths, FitsToken}
 use Rattle.p3l_firing.specs.Typed.{IsFitting}
@@ -36,12 +36,12 @@ room_or_not : (net : Net) (s t : State) (outs : List ℕ) (k : ℕ) (b : Bool) �
 room_or_not net s t outs k true e same = room-same net s t _ (all-nth (λ c. s.tokens c ≡ t.tokens c) outs same k (ltb-true _ _ e))
 room_or_not net s t outs k false e same = refl
 
-pub alike : (net : Net) (s t : State) (o : Own) (q : Proc) → SameIn s t (reads q) → can net s o q ≡ can net t o q
+pub alike : (net : Net) (s t : State) (o : LocalState) (q : Proc) → SameIn s t (reads q) → can net s o q ≡ can net t o q
 unfolding can
 alike net s t o q same =
     ap₂ (λ a b. cond (has_first o.held) a b) (room_or_not net s t q.outs o.number (nat_lt o.number (length q.outs)) refl same.1) (ap has_first same.0)
 
-pub rest_stays : (tree : Tree) (s : State) (rest : List (List ℤ)) (p : ℕ) (o : Own) (q : Proc) → fire tree (with_rest s rest) p o q ≡ with_rest (fire tree s p o q) rest
+pub rest_stays : (tree : Tree) (s : State) (rest : List (List ℤ)) (p : ℕ) (o : LocalState) (q : Proc) → fire tree (with_rest s rest) p o q ≡ with_rest (fire tree s p o q) rest
 unfolding fire segment_sent with_rest push pop set_own
 rest_stays tree s rest p o q = with_rest-cond (has_first o.held) (segment_sent tree s p o q) (set_own (pop s (in_of q 0)) p (holding (front s (in_of q 0)))) rest
 
@@ -56,7 +56,7 @@ segment_fits tree lawful q fits_q s (Value words) inside long =
     ∙ segment_long fits_q.elem fits_q.len (length q.outs) s words some (long ∙ reduce.elements)
 segment_fits tree lawful q fits_q s (Trapped trap) inside long = tt
 
-module _ {tree : Tree} {net : Net} {widths : Widths} (lawful : IsLawfulTree tree) (s : State) (p : ℕ) (o : Own) (q : Proc) (fit : IsFitting tree net widths s) (stands : slice_get net.procs p ≡ Some q) (kind : q.kind ≡ Split) (fits_q : Fits tree widths q) where
+module _ {tree : Tree} {net : Net} {widths : Widths} (lawful : IsLawfulTree tree) (s : State) (p : ℕ) (o : LocalState) (q : Proc) (fit : IsFitting tree net widths s) (stands : slice_get net.procs p ≡ Some q) (kind : q.kind ≡ Split) (fits_q : Fits tree widths q) where
   kept : (b : Bool) → nat_lt (suc o.number) (length q.outs) ≡ b → Keeps widths q o → Keeps widths q (cond b (counted o) fresh)
   kept true more keeps = let less = ltb-true _ _ more in record { held = keeps.held; number = λ full. omega (arith, less) }
   kept false more keeps = record { held = tt; number = λ full. cc }

@@ -12,9 +12,9 @@ use Rattle.p3l_firing.specs.declared.process.ProcKind.TheVariants.{Tail}
 use Rattle.p3l_firing.specs.declared.net.Net.{Net}
 use Rattle.p3l_firing.specs.declared.token.Token.{Token}
 use Rattle.p3l_firing.specs.Lists.{has_first}
-use Rattle.p3l_firing.specs.Token.{credit, newest_tag, second_tag, peeled, once_more}
+use Rattle.p3l_firing.specs.Token.{credit, newest_tag, second_tag, untagged, once_more}
 use Rattle.p3l_firing.specs.Nodes.{Leaf, turns_of, spent_of, test_of}
-use Rattle.p3l_firing.specs.State.{Own, State, front, pop, push, set_own, gathering, has_room, with_rest}
+use Rattle.p3l_firing.specs.State.{LocalState, State, front, pop, push, set_own, gathering, has_room, with_rest}
 use Rattle.p3l_firing.specs.Process.{IsAt, in_of, out_of}
 use Rattle.p3l_firing.specs.Widths.{Widths, FitsToken}
 use Rattle.p3l_firing.specs.Typed.{IsFitting}
@@ -30,32 +30,32 @@ own_reads tree widths q fits_q =
     let long = three_long q.outs _ _ _ fits_q.outs in
     (inl (first_in q.ins fits_q.ins), (inr (has-nth q.outs 0 (omega (arith, long))), (inr (has-nth q.outs 1 (omega (arith, long))), (inr (has-nth q.outs 2 (omega (arith, long))), tt))))
 
-pub release-alike : (net : Net) (s t : State) (o : Own) (q : Proc) → SameIn s t (reads q) → can_release net s o q ≡ can_release net t o q
+pub release-alike : (net : Net) (s t : State) (o : LocalState) (q : Proc) → SameIn s t (reads q) → can_release net s o q ≡ can_release net t o q
 unfolding can_release
 release-alike net s t o q same = ap₂ (λ a b. has_number o.number o.held && (a && b)) (room-same net s t _ same.1.0) (room-same net s t _ same.1.1.1.0)
 
-pub alike : (net : Net) (s t : State) (o : Own) (q : Proc) → SameIn s t (reads q) → can net s o q ≡ can net t o q
+pub alike : (net : Net) (s t : State) (o : LocalState) (q : Proc) → SameIn s t (reads q) → can net s o q ≡ can net t o q
 unfolding can
 alike net s t o q same = ap₂ (λ a b. a || b) (release-alike net s t o q same) (ap₂ (λ a b. a && b) (ap has_first same.0) (room-same net s t _ same.1.1.0))
 
-turn-rest : (turn : Turn) (s : State) (rest : List (List ℤ)) (p : ℕ) (o : Own) (q : Proc) (x : Token) → take_turn turn (with_rest s rest) p o q x ≡ with_rest (take_turn turn s p o q x) rest
+turn-rest : (turn : Turn) (s : State) (rest : List (List ℤ)) (p : ℕ) (o : LocalState) (q : Proc) (x : Token) → take_turn turn (with_rest s rest) p o q x ≡ with_rest (take_turn turn s p o q x) rest
 unfolding take_turn with_rest push pop set_own
 turn-rest (Held outcome) s rest p o q x = refl
 turn-rest Again s rest p o q x = refl
 
-release-rest : (s : State) (rest : List (List ℤ)) (p : ℕ) (o : Own) (q : Proc) → release (with_rest s rest) p o q ≡ with_rest (release s p o q) rest
+release-rest : (s : State) (rest : List (List ℤ)) (p : ℕ) (o : LocalState) (q : Proc) → release (with_rest s rest) p o q ≡ with_rest (release s p o q) rest
 unfolding release with_rest push pop set_own
 release-rest s rest p o q = refl
 
-can_release-rest : (net : Net) (s : State) (rest : List (List ℤ)) (o : Own) (q : Proc) → can_release net (with_rest s rest) o q ≡ can_release net s o q
+can_release-rest : (net : Net) (s : State) (rest : List (List ℤ)) (o : LocalState) (q : Proc) → can_release net (with_rest s rest) o q ≡ can_release net s o q
 unfolding can_release with_rest has_room
 can_release-rest net s rest o q = refl
 
-fire-rest : (tree : Tree) (leaf : Leaf) (s : State) (rest : List (List ℤ)) (p : ℕ) (o : Own) (q : Proc) → take_turn (next_turn tree leaf (with_rest s rest) q) (with_rest s rest) p o q (front (with_rest s rest) (in_of q 0)) ≡ with_rest (take_turn (next_turn tree leaf s q) s p o q (front s (in_of q 0))) rest
+fire-rest : (tree : Tree) (leaf : Leaf) (s : State) (rest : List (List ℤ)) (p : ℕ) (o : LocalState) (q : Proc) → take_turn (next_turn tree leaf (with_rest s rest) q) (with_rest s rest) p o q (front (with_rest s rest) (in_of q 0)) ≡ with_rest (take_turn (next_turn tree leaf s q) s p o q (front s (in_of q 0))) rest
 unfolding with_rest
 fire-rest tree leaf s rest p o q = turn-rest (next_turn tree leaf s q) s rest p o q (front s (in_of q 0))
 
-pub rest_stays : (tree : Tree) (leaf : Leaf) (net : Net) (s : State) (rest : List (List ℤ)) (p : ℕ) (o : Own) (q : Proc) → fire tree leaf net (with_rest s rest) p o q ≡ with_rest (fire tree leaf net s p o q) rest
+pub rest_stays : (tree : Tree) (leaf : Leaf) (net : Net) (s : State) (rest : List (List ℤ)) (p : ℕ) (o : LocalState) (q : Proc) → fire tree leaf net (with_rest s rest) p o q ≡ with_rest (fire tree leaf net s p o q) rest
 unfolding fire
 rest_stays tree leaf net s rest p o q =
     ap (λ b. cond b (release (with_rest s rest) p o q) (take_turn (next_turn tree leaf (with_rest s rest) q) (with_rest s rest) p o q (front (with_rest s rest) (in_of q 0)))) (can_release-rest net s rest o q)
@@ -85,7 +85,7 @@ dropped_all P n (x ∷ xs) all =
       | inr other ↦ subst (AllByRecursion P) (sym (cond-false (nat_eq (second_tag x) n) _ _ other)) (all.0, dropped_all P n xs all.1)
     ]
 
--- what is held has n words
+-- a held outcome has n words
 HeldLong : ℕ → Turn → Type 0
 HeldLong n (Held outcome) = HasLength n outcome
 HeldLong n Again = Unit {0}
@@ -105,7 +105,7 @@ unfolding turn_of HeldLong
 turn_long n test spent more (Trapped trap) long last = tt
 turn_long n test spent more (Value words) long last = tested_long n (test (Value words)) (Value words) spent more long last
 
-module _ {tree : Tree} {net : Net} {widths : Widths} (leaf : Leaf) (s : State) (p : ℕ) (o : Own) (q : Proc) (fit : IsFitting tree net widths s) (stands : slice_get net.procs p ≡ Some q) (kind : q.kind ≡ Tail) (fits_q : Fits tree widths q) where
+module _ {tree : Tree} {net : Net} {widths : Widths} (leaf : Leaf) (s : State) (p : ℕ) (o : LocalState) (q : Proc) (fit : IsFitting tree net widths s) (stands : slice_get net.procs p ≡ Some q) (kind : q.kind ≡ Tail) (fits_q : Fits tree widths q) where
   pub released_fits : out_of q 2 ≢ out_of q 0 → can_release net s o q ≡ true → Keeps widths q o → IsFitting tree net widths (release s p o q)
   unfolding can_release release after_release
   released_fits apart h keeps =
@@ -117,10 +117,10 @@ module _ {tree : Tree} {net : Net} {widths : Widths} (leaf : Leaf) (s : State) (
       let long : length x.tags ≡ outside + 1 + 1 = (let all : length x.tags ≡ outside + 2 = token.tags ∙ fits_q.takes.tags in omega (arith, all)) in
       let once = later_long x.tags (outside + 1) long in
       fitting-own _
-      (fitting-push (push s (out_of q 0) (peeled (peeled x)))
-      (fitting-push s fit (out_of q 0) (peeled (peeled x)) rooms.0
-      (record { words = subst (λ n. HasLength n x.body) (fits_q.takes.words ∙ sym fits_q.gives) token.words; tags = later_long (peeled x).tags outside once }))
-      (out_of q 2) credit (room-push net s (out_of q 0) (out_of q 2) (peeled (peeled x)) apart rooms.1)
+      (fitting-push (push s (out_of q 0) (untagged (untagged x)))
+      (fitting-push s fit (out_of q 0) (untagged (untagged x)) rooms.0
+      (record { words = subst (λ n. HasLength n x.body) (fits_q.takes.words ∙ sym fits_q.gives) token.words; tags = later_long (untagged x).tags outside once }))
+      (out_of q 2) credit (room-push net s (out_of q 0) (out_of q 2) (untagged (untagged x)) apart rooms.1)
       (record { words = sym fits_q.credits.words; tags = sym fits_q.credits.tags }))
       p q Tail (after_release o) stands kind (dropped_all (FitsToken widths (in_of q 0)) o.number o.held keeps)
 

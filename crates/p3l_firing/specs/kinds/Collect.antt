@@ -7,8 +7,8 @@ use Rattle.p3l_skel.specs.Counts.{IsLawfulCount}
 use Rattle.p3l_firing.specs.declared.process.Proc.{Proc}
 use Rattle.p3l_firing.specs.declared.net.Net.{Net}
 use Rattle.p3l_firing.specs.declared.token.Token.{Token}
-use Rattle.p3l_firing.specs.Token.{newest_tag, peeled}
-use Rattle.p3l_firing.specs.State.{Own, State, front, pop, push, set_own, counted, has_room}
+use Rattle.p3l_firing.specs.Token.{newest_tag, untagged}
+use Rattle.p3l_firing.specs.State.{LocalState, State, front, pop, push, set_own, counted, has_room}
 use Rattle.p3l_firing.specs.Process.{out_of}
 use Rattle.p3l_firing.specs.Widths.{Widths, AllCarry}
 
@@ -23,16 +23,16 @@ due_in s n [] = None
 due_in s n (c ∷ cs) = cond (front_is n (s.tokens c)) (Some c) (due_in s n cs)
 
 -- it can fire where the token that is expected has come, and there is room for it
-unfoldable pub can : Net → State → Own → Proc → Bool
+unfoldable pub can : Net → State → LocalState → Proc → Bool
 can net s o q = is_some (due_in s o.number q.ins) && has_room net s (out_of q 0)
 
 -- the state after process p took the token that is expected from channel c
-unfoldable pub taken_from : Option ℕ → State → ℕ → Own → Proc → State
+unfoldable pub taken_from : Option ℕ → State → ℕ → LocalState → Proc → State
 taken_from None s p o q = s
-taken_from (Some c) s p o q = set_own (push (pop s c) (out_of q 0) (peeled (front s c))) p (counted o)
+taken_from (Some c) s p o q = set_own (push (pop s c) (out_of q 0) (untagged (front s c))) p (counted o)
 
 -- it takes the token whose number is expected, and hands it on without that tag
-unfoldable pub fire : State → ℕ → Own → Proc → State
+unfoldable pub fire : State → ℕ → LocalState → Proc → State
 fire s p o q = taken_from (due_in s o.number q.ins) s p o q
 
 -- the channels that its condition reads

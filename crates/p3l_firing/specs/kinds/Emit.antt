@@ -8,7 +8,7 @@ use Rattle.p3l_firing.specs.declared.process.Proc.{Proc}
 use Rattle.p3l_firing.specs.declared.net.Net.{Net}
 use Rattle.p3l_firing.specs.Lists.{has_first}
 use Rattle.p3l_firing.specs.Token.{tagged}
-use Rattle.p3l_firing.specs.State.{Own, State, front, pop, push, set_own, counted, has_room}
+use Rattle.p3l_firing.specs.State.{LocalState, State, front, pop, push, set_own, counted, has_room}
 use Rattle.p3l_firing.specs.Process.{in_of}
 use Rattle.p3l_firing.specs.Widths.{Widths, AllCarry}
 
@@ -32,12 +32,12 @@ unfoldable pub can : Net → State → Proc → Bool
 can net s q = has_first (s.tokens (in_of q 0)) && is_some (emptiest net s q.outs)
 
 -- the state after process p sent the first token to channel c, with its number as a tag
-unfoldable pub sent_to : Option ℕ → State → ℕ → Own → Proc → State
+unfoldable pub sent_to : Option ℕ → State → ℕ → LocalState → Proc → State
 sent_to None s p o q = s
 sent_to (Some c) s p o q = set_own (push (pop s (in_of q 0)) c (tagged o.number (front s (in_of q 0)))) p (counted o)
 
 -- it tags the first token with its number, and sends it to the worker with room and the fewest tokens
-unfoldable pub fire : Net → State → ℕ → Own → Proc → State
+unfoldable pub fire : Net → State → ℕ → LocalState → Proc → State
 fire net s p o q = sent_to (emptiest net s q.outs) s p o q
 
 -- the channels that its condition reads

@@ -10,31 +10,31 @@ use Rattle.p3l_firing.specs.declared.net.Net.{Net}
 use Rattle.p3l_firing.specs.Lists.{has_first, first_or}
 use Rattle.p3l_firing.specs.Token.{credit, bodies}
 use Rattle.p3l_firing.specs.Nodes.{Leaf, fold_of}
-use Rattle.p3l_firing.specs.State.{Own, State, front, pop, push, set_own, gathering, released, has_room}
+use Rattle.p3l_firing.specs.State.{LocalState, State, front, pop, push, set_own, gathering, released, has_room}
 use Rattle.p3l_firing.specs.Process.{in_of, out_of}
 use Rattle.p3l_firing.specs.Widths.{Widths, AllCarry, HasWidth}
 
 -- it holds the outcomes of all segments
-unfoldable pub is_full : Own → Proc → Bool
+unfoldable pub is_full : LocalState → Proc → Bool
 is_full o q = nat_le (length q.ins) (length o.held)
 
 -- the channel of the outcome that it takes next
-abbrev pub line_of : Own → Proc → ℕ
+abbrev pub line_of : LocalState → Proc → ℕ
 line_of o q = in_of q (length o.held)
 
 -- it can fire where it holds all outcomes, and there is room for their fold; or where it does not, and the next one has come
-unfoldable pub can : Net → State → Own → Proc → Bool
+unfoldable pub can : Net → State → LocalState → Proc → Bool
 can net s o q = cond (is_full o q) (has_room net s (out_of q 0)) (has_first (s.tokens (line_of o q)))
 
 -- the state after the outcomes held were folded, with the tags of the first
-unfoldable pub fold_sent : Tree → Leaf → State → ℕ → Own → Proc → State
+unfoldable pub fold_sent : Tree → Leaf → State → ℕ → LocalState → Proc → State
 fold_sent tree leaf s p o q =
     set_own
     (push s (out_of q 0) (record { tags = (first_or credit o.held).tags; body = fold_of tree leaf q.node (bodies o.held) }))
     p (released o)
 
 -- it folds the outcomes that it holds, if these are all; else it takes the next one
-unfoldable pub fire : Tree → Leaf → State → ℕ → Own → Proc → State
+unfoldable pub fire : Tree → Leaf → State → ℕ → LocalState → Proc → State
 fire tree leaf s p o q =
     cond (is_full o q) (fold_sent tree leaf s p o q)
     (set_own (pop s (line_of o q)) p (gathering o (front s (line_of o q))))
@@ -57,7 +57,7 @@ pub record Fits (tree : Tree) (widths : Widths) (q : Proc) : Type 0 where
   pub takes : AllCarry widths q.ins (node_at tree q.node).outs (widths.tags (out_of q 0))
   pub gives : widths.words (out_of q 0) ≡ (node_at tree q.node).outs
 
--- what it holds fits its in channels, and is no more than one outcome a segment
-pub record Keeps (tree : Tree) (widths : Widths) (q : Proc) (o : Own) : Type 0 where
+-- the held tokens fit the in channels, and are no more than one outcome a segment
+pub record Keeps (tree : Tree) (widths : Widths) (q : Proc) (o : LocalState) : Type 0 where
   pub held : AllByRecursion (HasWidth (node_at tree q.node).outs (widths.tags (out_of q 0))) o.held
   pub few : length o.held ≤ length q.ins

@@ -7,7 +7,7 @@ use Rattle.p3l_firing.specs.declared.process.Proc.{Proc}
 use Rattle.p3l_firing.specs.declared.net.Net.{Net}
 use Rattle.p3l_firing.specs.Lists.{has_first}
 use Rattle.p3l_firing.specs.Token.{admitted}
-use Rattle.p3l_firing.specs.State.{Own, State, front, pop, push, set_own, counted, has_room}
+use Rattle.p3l_firing.specs.State.{LocalState, State, front, pop, push, set_own, counted, has_room}
 use Rattle.p3l_firing.specs.Process.{in_of, out_of}
 use Rattle.p3l_firing.specs.Widths.{Widths, Carries}
 
@@ -22,12 +22,12 @@ unfoldable pub sent_round : State → Proc → State
 sent_round s q = push (pop s (in_of q 1)) (out_of q 0) (front s (in_of q 1))
 
 -- the state after process p took a credit, and let a token in, with its number and turn 1
-unfoldable pub let_in : State → ℕ → Own → Proc → State
+unfoldable pub let_in : State → ℕ → LocalState → Proc → State
 let_in s p o q =
     set_own (push (pop (pop s (in_of q 0)) (in_of q 2)) (out_of q 0) (admitted o.number (front s (in_of q 0)))) p (counted o)
 
 -- it sends a token round that came back, if there is one; else it lets one in
-unfoldable pub fire : State → ℕ → Own → Proc → State
+unfoldable pub fire : State → ℕ → LocalState → Proc → State
 fire s p o q = cond (has_first (s.tokens (in_of q 1))) (sent_round s q) (let_in s p o q)
 
 -- the channels that its condition reads

@@ -10,9 +10,9 @@ use Rattle.p3l_firing.specs.declared.process.Proc.{Proc}
 use Rattle.p3l_firing.specs.declared.net.Net.{Net}
 use Rattle.p3l_firing.specs.declared.token.Token.{Token}
 use Rattle.p3l_firing.specs.Lists.{has_first}
-use Rattle.p3l_firing.specs.Token.{credit, newest_tag, second_tag, peeled, once_more}
+use Rattle.p3l_firing.specs.Token.{credit, newest_tag, second_tag, untagged, once_more}
 use Rattle.p3l_firing.specs.Nodes.{Leaf, test_of, turns_of, spent_of}
-use Rattle.p3l_firing.specs.State.{Own, State, front, pop, push, set_own, gathering, has_room}
+use Rattle.p3l_firing.specs.State.{LocalState, State, front, pop, push, set_own, gathering, has_room}
 use Rattle.p3l_firing.specs.Process.{in_of, out_of}
 use Rattle.p3l_firing.specs.Widths.{Widths, Carries, AllFit}
 
@@ -29,7 +29,7 @@ unfoldable pub drop_number : ℕ → List Token → List Token
 drop_number n [] = []
 drop_number n (x ∷ xs) = cond (nat_eq (second_tag x) n) xs (x ∷ drop_number n xs)
 
--- what becomes of a token that comes out of the body: it is held with an outcome, or goes round once more
+-- the fate of a token that comes out of the body: it is held with an outcome, or goes round once more
 pub data Turn : Type 0 where
   Held : Outcome → Turn
   Again : Turn
@@ -46,36 +46,36 @@ turn_of test spent more (Value words) = by_test (test (Value words)) (Value word
 
 -- it can let a token out: it holds the one whose number is expected, and there is room for it and
 -- for a credit
-unfoldable pub can_release : Net → State → Own → Proc → Bool
+unfoldable pub can_release : Net → State → LocalState → Proc → Bool
 can_release net s o q = has_number o.number o.held && (has_room net s (out_of q 0) && has_room net s (out_of q 2))
 
 -- it can fire where it can let a token out; or where one comes out of the body, and there is room for it to go round
-unfoldable pub can : Net → State → Own → Proc → Bool
+unfoldable pub can : Net → State → LocalState → Proc → Bool
 can net s o q = can_release net s o q || (has_first (s.tokens (in_of q 0)) && has_room net s (out_of q 1))
 
--- what it keeps after it let a token out
-unfoldable pub after_release : Own → Own
+-- the local state after a token was let out
+unfoldable pub after_release : LocalState → LocalState
 after_release o = record { number = o.number + 1; held = drop_number o.number o.held }
 
 -- the state after process p let the token out whose number is expected, without its two tags, and
 -- gave back its credit
-unfoldable pub release : State → ℕ → Own → Proc → State
+unfoldable pub release : State → ℕ → LocalState → Proc → State
 release s p o q =
-    set_own (push (push s (out_of q 0) (peeled (peeled (pick_number o.number o.held)))) (out_of q 2) credit) p (after_release o)
+    set_own (push (push s (out_of q 0) (untagged (untagged (pick_number o.number o.held)))) (out_of q 2) credit) p (after_release o)
 
 -- the state after process p took the token x that came out of the body
-unfoldable pub take_turn : Turn → State → ℕ → Own → Proc → Token → State
+unfoldable pub take_turn : Turn → State → ℕ → LocalState → Proc → Token → State
 take_turn (Held outcome) s p o q x = set_own (pop s (in_of q 0)) p (gathering o (record x { body = outcome }))
 take_turn Again s p o q x = push (pop s (in_of q 0)) (out_of q 1) (once_more x)
 
--- what becomes of the first token that came out of the body
+-- the fate of the first token that came out of the body
 abbrev pub next_turn : Tree → Leaf → State → Proc → Turn
 next_turn tree leaf s q =
     turn_of (test_of tree leaf q.node) (spent_of tree q.node) (nat_lt (newest_tag (front s (in_of q 0))) (turns_of tree q.node))
     (front s (in_of q 0)).body
 
 -- it lets a token out, if it can; else it takes one
-unfoldable pub fire : Tree → Leaf → Net → State → ℕ → Own → Proc → State
+unfoldable pub fire : Tree → Leaf → Net → State → ℕ → LocalState → Proc → State
 fire tree leaf net s p o q =
     cond (can_release net s o q) (release s p o q) (take_turn (next_turn tree leaf s q) s p o q (front s (in_of q 0)))
 
@@ -97,6 +97,6 @@ pub record Fits (tree : Tree) (widths : Widths) (q : Proc) : Type 0 where
   pub credits : Carries widths (out_of q 2) 0 0
   pub gives : widths.words (out_of q 0) ≡ (node_at tree q.node).outs
 
--- what it holds fits its in channel
-abbrev pub Keeps : Widths → Proc → Own → Type 0
+-- the held tokens fit the in channel
+abbrev pub Keeps : Widths → Proc → LocalState → Type 0
 Keeps widths q o = AllFit widths (in_of q 0) o.held

@@ -126,7 +126,7 @@ none_unless : {A : Type 0} (b : Bool) (v : A) → (b ≡ true → ⊥) → cond 
 none_unless true v never = absurd (never refl)
 none_unless false v never = refl
 
--- what digits must be, to be a number's
+-- digits that pass the test are those of a number below 2 ^ 128
 reported : (ds : List ℕ) → (bytes_eq (decimal (digits_value 10 ds)) ds && ltb (digits_value 10 ds) (2 ^ 128)) ≡ true → (decimal (digits_value 10 ds) ≡ ds) × (digits_value 10 ds < 2 ^ 128)
 reported ds e = (
   (bytes_eq-Decides (decimal (digits_value 10 ds)) ds).0 (first_true (bytes_eq (decimal (digits_value 10 ds)) ds) _ e),

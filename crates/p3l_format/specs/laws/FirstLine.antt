@@ -1,4 +1,4 @@
--- Which line of a text is the first that isn't of its form.
+-- The first line of a text that isn't of its form.
 use Rattle.std.proofs.Common.{◌≡◌, ℕ, zero, suc, ◌+◌, ◌-◌, ◌^◌, ◌<◌, ◌≤◌, ◌⊎◌, inl, inr, Bool, true, false, cond, eqb, List, [], ◌∷◌, ◌++◌, length, take, drop, Option, Some, None, Result, Ok, Err, refl, sym, ap, subst, ◌∙◌, append_assoc, arith}
 use Rattle.std.proofs.lemmas.Bool.{cases_eq, ne_eqb, ltb-true, lt-ltb, le-leb}
 use Rattle.std.proofs.lemmas.List.{length-append, append-nil, append_cancel_left, take_at}
@@ -11,7 +11,7 @@ use Rattle.p3l_format.specs.Decimal.{digit_len, number_of, found, number_text, n
 use Rattle.p3l_format.specs.Numbers.{is_in}
 use Rattle.p3l_format.specs.laws.Line.{lawful_line}
 use Rattle.p3l_format.specs.laws.Decimal.{lawful_number_then, no_digit_first, number_in_before}
-use Rattle.p3l_format.specs.declared.fault.Fault.{Fault}
+use Rattle.p3l_format.specs.declared.fault.FieldFault.{FieldFault}
 use Rattle.p3l_format.specs.declared.fault.Cause.TheVariants.{Range, More}
 use Rattle.p3l_format.specs.Format.{Format, fault_at, ◌>>=◌, both, pair, within, as_form, record_of, read_all, ended, tested}
 use Rattle.p3l_format.specs.Lawful.{IsLawful}
@@ -36,7 +36,7 @@ some_feed b s is none =
 feeds_after : (b : ℕ) (s : List ℕ) → feeds (b ∷ s) ≡ 0 → feeds s ≡ 0
 feeds_after b s none = omega (arith, feeds-append (b ∷ []) s)
 
--- where two first lines end is one place
+-- equal texts have the same first line and the same rest
 pub same_line : (a b s t : List ℕ) → feeds a ≡ 0 → feeds b ≡ 0 → a ++ 10 ∷ s ≡ b ++ 10 ∷ t → (a ≡ b) × (s ≡ t)
 same_line [] [] s t p q e = (refl, cc)
 same_line [] (c ∷ b) s t p q e =
@@ -72,7 +72,7 @@ IsOneLine s = (front : List ℕ) × (feeds front ≡ 0) × (s ≡ front ++ 10 �
 abbrev pub IsInLine : List ℕ → Type 0
 IsInLine s = feeds s ≡ 0
 
--- what begins with the line that the prefix begins, begins with the prefix
+-- a text that begins with the line that the prefix begins also begins with the prefix
 abbrev pub IsWithinLine : List ℕ → Type 0
 IsWithinLine front = (s t : List ℕ) → BeginAlike (front ++ s) t → (rest : List ℕ) × (t ≡ front ++ rest)
 
@@ -169,10 +169,10 @@ number_ends_line low high = each_then_text IsInLine IsOneLine IsOneLine (number_
 
 -- ---- faults
 
--- what is before the line that has the fault, and that no spelling has that line there, whatever is after it
+-- the bytes before the line that has the fault; no spelling has that line there, whatever is after it
 pub record IsBadAt {A : Type 0} (format : Format ℕ A) (s : List ℕ) (left : ℕ) : Type 0 where
   pub before : List ℕ
-  -- what of the line is before the place of the fault
+  -- the bytes of the line before the place of the fault
   pub part : List ℕ
   pub place : List ℕ
   pub is : s ≡ before ++ (part ++ place)
@@ -186,7 +186,7 @@ pub record IsBadAt {A : Type 0} (format : Format ℕ A) (s : List ℕ) (left : �
 pub record ReportsLine {A : Type 0} (format : Format ℕ A) : Type 0 where
   pub law : IsLawful format
   pub some : (v : A) × (format.fits v ≡ true)
-  pub fault : (s : List ℕ) (f : Fault) → format.read s ≡ Err f → IsBadAt format s f.left
+  pub fault : (s : List ℕ) (f : FieldFault) → format.read s ≡ Err f → IsBadAt format s f.left
 
 -- the place where `left` bytes are left is in the first line
 pub record IsInFront (s : List ℕ) (left : ℕ) : Type 0 where
@@ -201,7 +201,7 @@ at_front s left is = record { part = []; place = s; is = refl; left_is = sym is;
 
 -- each fault is in the first line
 abbrev pub ReportsInFront : {A : Type 0} → Format ℕ A → Type 0
-ReportsInFront format = (s : List ℕ) (f : Fault) → format.read s ≡ Err f → IsInFront s f.left
+ReportsInFront format = (s : List ℕ) (f : FieldFault) → format.read s ≡ Err f → IsInFront s f.left
 
 -- each spelling is one line, and each fault is in it
 pub record IsLine {A : Type 0} (format : Format ℕ A) : Type 0 where
@@ -209,13 +209,13 @@ pub record IsLine {A : Type 0} (format : Format ℕ A) : Type 0 where
   pub one : Each IsOneLine format
   pub reports : ReportsInFront format
 
-step_failed : {A B : Type 0} (r : Result A Fault) (g : A → Result B Fault) (f : Fault) → (r >>= g) ≡ Err f → (r ≡ Err f) ⊎ ((x : A) × (r ≡ Ok x) × (g x ≡ Err f))
+step_failed : {A B : Type 0} (r : Result A FieldFault) (g : A → Result B FieldFault) (f : FieldFault) → (r >>= g) ≡ Err f → (r ≡ Err f) ⊎ ((x : A) × (r ≡ Ok x) × (g x ≡ Err f))
 step_failed (Ok x) g f e = inr (x, refl, e)
-step_failed (Err d) g f e = let is : d ≡ f = cc in inl (ap (λ (c : Fault). Err c) is)
+step_failed (Err d) g f e = let is : d ≡ f = cc in inl (ap (λ (c : FieldFault). Err c) is)
 
-at_line_failed : {A : Type 0} (s : List ℕ) (r : Result A Fault) (f : Fault) → at_line s r ≡ Err f → f.left ≡ length s
+at_line_failed : {A : Type 0} (s : List ℕ) (r : Result A FieldFault) (f : FieldFault) → at_line s r ≡ Err f → f.left ≡ length s
 at_line_failed s (Ok x) f e = absurd cc
-at_line_failed s (Err d) f e = let is : fault_at Range s ≡ f = cc in ap (λ (c : Fault). c.left) (sym is)
+at_line_failed s (Err d) f e = let is : fault_at Range s ≡ f = cc in ap (λ (c : FieldFault). c.left) (sym is)
 
 pub is_line : {A : Type 0} (inner : Format ℕ A) → IsLawful inner → Each IsOneLine inner → IsLine (line inner)
 unfolding line
@@ -225,7 +225,7 @@ is_line inner law one = record {
   reports = λ s f e. at_front s f.left (at_line_failed s (inner.read s) f e);
 }
 
--- what is spelled in front is one value
+-- two spellings in front of one text are of one value
 same_front : {A : Type 0} (format : Format ℕ A) → IsLawful format → (v w : A) (s t : List ℕ) → format.fits v ≡ true → format.fits w ≡ true → format.spell v ++ s ≡ format.spell w ++ t → (v ≡ w) × (s ≡ t)
 same_front format law v w s t fits fitting e =
     let c : format.read (format.spell w ++ t) ≡ Ok (v, s) = ap format.read (sym e) ∙ law.again v s fits in
@@ -233,7 +233,7 @@ same_front format law v w s t fits fitting e =
     (ap (λ x. x.0) d, ap (λ x. x.1) d)
 
 -- no spelling has a line that isn't read
-line_refused : {A : Type 0} (format : Format ℕ A) → IsLine format → (s : List ℕ) (f : Fault) → format.read s ≡ Err f → (v : A) (rest more : List ℕ) → format.fits v ≡ true → format.spell v ++ rest ≡ more → BeginAlike more s → ⊥
+line_refused : {A : Type 0} (format : Format ℕ A) → IsLine format → (s : List ℕ) (f : FieldFault) → format.read s ≡ Err f → (v : A) (rest more : List ℕ) → format.fits v ≡ true → format.spell v ++ rest ≡ more → BeginAlike more s → ⊥
 line_refused format l s f e v rest more fits is alike =
     let same : BeginAlike (format.spell v ++ rest) s = subst (λ (m : List ℕ). BeginAlike m s) (sym is) alike in
     let h = line_is_within (format.spell v) (l.one v fits) rest s same in
@@ -283,7 +283,7 @@ after_lines : {A B : Type 0} (inner : Format ℕ A) (outer : Format ℕ B) (fron
     → ((a : List ℕ) → Begins inner a → Begins outer (front ++ a))
     → ((v : B) (rest more : List ℕ) → outer.fits v ≡ true → outer.spell v ++ rest ≡ front ++ more → (w : A) × (inner.fits w ≡ true) × (inner.spell w ++ rest ≡ more))
     → IsBadAt inner s left → IsBadAt outer t left
-after_lines inner outer front s t left whole is begins peel b = record {
+after_lines inner outer front s t left whole is begins untag b = record {
   before = front ++ b.before;
   part = b.part;
   place = b.place;
@@ -293,7 +293,7 @@ after_lines inner outer front s t left whole is begins peel b = record {
   whole = whole_append front b.before whole b.whole;
   good = begins b.before b.good;
   bad = λ v rest more fits e alike.
-      let h = peel v rest (b.before ++ more) fits (e ∙ append_assoc front b.before more) in
+      let h = untag v rest (b.before ++ more) fits (e ∙ append_assoc front b.before more) in
       b.bad h.0 rest more h.1 h.2 alike;
 }
 
@@ -329,14 +329,14 @@ both_begin first second x fits a good = (
   ap (λ (r : List ℕ). first.spell x ++ r) good.3 ∙ sym (append_assoc (first.spell x) a good.1),
 )
 
-both_peel : {A B : Type 0} (first : Format ℕ A) (second : Format ℕ B) → IsLawful first → (x : A) → first.fits x ≡ true
+both_untagged : {A B : Type 0} (first : Format ℕ A) (second : Format ℕ B) → IsLawful first → (x : A) → first.fits x ≡ true
     → (v : A × B) (rest more : List ℕ) → (both first second).fits v ≡ true → (both first second).spell v ++ rest ≡ first.spell x ++ more → (w : B) × (second.fits w ≡ true) × (second.spell w ++ rest ≡ more)
 unfolding pair
-both_peel first second law x fitting v rest more fits e =
+both_untagged first second law x fitting v rest more fits e =
     let same = same_front first law v.0 x (second.spell v.1 ++ rest) more (first_true (first.fits v.0) (second.fits v.1) fits) fitting (sym (append_assoc (first.spell v.0) (second.spell v.1) rest) ∙ e) in
     (v.1, second_true (first.fits v.0) (second.fits v.1) fits, same.1)
 
-both_fault : {A B : Type 0} (first : Format ℕ A) (second : Format ℕ B) → ReportsLine first → Each IsWhole first → ReportsLine second → (s : List ℕ) (f : Fault) → (both first second).read s ≡ Err f → IsBadAt (both first second) s f.left
+both_fault : {A B : Type 0} (first : Format ℕ A) (second : Format ℕ B) → ReportsLine first → Each IsWhole first → ReportsLine second → (s : List ℕ) (f : FieldFault) → (both first second).read s ≡ Err f → IsBadAt (both first second) s f.left
 unfolding pair
 both_fault first second t whole u s f e =
     elim (step_failed (first.read s) (λ x. second.read x.1 >>= λ y. Ok ((x.0, y.0), y.1)) f e) [
@@ -346,7 +346,7 @@ both_fault first second t whole u s f e =
             | inl no_second ↦
                 let is = taken first t.law s h.0 h.1 in
                 after_lines second (both first second) (first.spell h.0.0) h.0.1 s f.left (whole h.0.0 is.fits) is.is
-                (both_begin first second h.0.0 is.fits) (both_peel first second t.law h.0.0 is.fits) (u.fault h.0.1 f no_second)
+                (both_begin first second h.0.0 is.fits) (both_untagged first second t.law h.0.0 is.fits) (u.fault h.0.1 f no_second)
             | inr k ↦ let never = k.2 in absurd cc
           ]
     ]
@@ -361,8 +361,8 @@ reports_both first second t whole u = record {
 
 -- ---- a line, and then a value
 
-text_fault : {A : Type 0} (read : List ℕ → Result A Fault) (s : List ℕ) (o : Option (List ℕ)) (f : Fault) → go_on read s o ≡ Err f → ((o ≡ None) × (f.left ≡ length s)) ⊎ ((rest : List ℕ) × (o ≡ Some rest) × (read rest ≡ Err f))
-text_fault read s None f e = let is : fault_at Range s ≡ f = cc in inl (refl, ap (λ (c : Fault). c.left) (sym is))
+text_fault : {A : Type 0} (read : List ℕ → Result A FieldFault) (s : List ℕ) (o : Option (List ℕ)) (f : FieldFault) → go_on read s o ≡ Err f → ((o ≡ None) × (f.left ≡ length s)) ⊎ ((rest : List ℕ) × (o ≡ Some rest) × (read rest ≡ Err f))
+text_fault read s None f e = let is : fault_at Range s ≡ f = cc in inl (refl, ap (λ (c : FieldFault). c.left) (sym is))
 text_fault read s (Some rest) f e = inr (rest, refl, e)
 
 -- no spelling has a line that isn't the text's
@@ -373,7 +373,7 @@ text_refused text s within none rest more is alike =
     let no_text = sym none ∙ some in
     absurd cc
 
-text_then_fault : {A : Type 0} (text : List ℕ) (inner : Format ℕ A) → IsOneLine text → ReportsLine inner → (s : List ℕ) (f : Fault) → (text_then text inner).read s ≡ Err f → IsBadAt (text_then text inner) s f.left
+text_then_fault : {A : Type 0} (text : List ℕ) (inner : Format ℕ A) → IsOneLine text → ReportsLine inner → (s : List ℕ) (f : FieldFault) → (text_then text inner).read s ≡ Err f → IsBadAt (text_then text inner) s f.left
 unfolding text_then
 text_then_fault text inner one t s f e =
     elim (text_fault inner.read s (after_text text s) f e) [
@@ -397,7 +397,7 @@ reports_text_then text inner one t = record {
 
 -- ---- the values of a record
 
-record_fault : {A B : Type 0} (make : A → B) (parts : B → A) (inner : Format ℕ A) → ((a : A) → parts (make a) ≡ a) → ReportsLine inner → (s : List ℕ) (f : Fault) → (record_of make parts inner).read s ≡ Err f → IsBadAt (record_of make parts inner) s f.left
+record_fault : {A B : Type 0} (make : A → B) (parts : B → A) (inner : Format ℕ A) → ((a : A) → parts (make a) ≡ a) → ReportsLine inner → (s : List ℕ) (f : FieldFault) → (record_of make parts inner).read s ≡ Err f → IsBadAt (record_of make parts inner) s f.left
 unfolding as_form
 record_fault {A = A} make parts inner back t s f e =
     elim (step_failed (inner.read s) (λ x. Ok (make x.0, x.1)) f e) [
@@ -419,15 +419,15 @@ reports_record make parts inner back there t = record {
 
 -- ---- faults inside a line
 
-found_failed : {A : Type 0} (o : Option A) (s rest : List ℕ) (f : Fault) → found o s rest ≡ Err f → f.left ≡ length s
-found_failed None s rest f e = let is : fault_at Range s ≡ f = cc in ap (λ (c : Fault). c.left) (sym is)
+found_failed : {A : Type 0} (o : Option A) (s rest : List ℕ) (f : FieldFault) → found o s rest ≡ Err f → f.left ≡ length s
+found_failed None s rest f e = let is : fault_at Range s ≡ f = cc in ap (λ (c : FieldFault). c.left) (sym is)
 found_failed (Some v) s rest f e = absurd cc
 
-test_failed : {A : Type 0} (b : Bool) (x : A) (s : List ℕ) (f : Fault) → cond b (Ok x) (Err (fault_at Range s)) ≡ Err f → f.left ≡ length s
+test_failed : {A : Type 0} (b : Bool) (x : A) (s : List ℕ) (f : FieldFault) → cond b (Ok x) (Err (fault_at Range s)) ≡ Err f → f.left ≡ length s
 test_failed true x s f e = absurd cc
-test_failed false x s f e = let is : fault_at Range s ≡ f = cc in ap (λ (c : Fault). c.left) (sym is)
+test_failed false x s f e = let is : fault_at Range s ≡ f = cc in ap (λ (c : FieldFault). c.left) (sym is)
 
-number_failed : (low high : ℕ) (s : List ℕ) (f : Fault) → (number_in low high).read s ≡ Err f → f.left ≡ length s
+number_failed : (low high : ℕ) (s : List ℕ) (f : FieldFault) → (number_in low high).read s ≡ Err f → f.left ≡ length s
 unfolding within number_text
 number_failed low high s f e =
     elim (step_failed ((number_text (2 ^ 128)).read s) (tested (is_in low high) s) f e) [
@@ -471,7 +471,7 @@ both_report first second law in_line reports reported s f e =
 
 -- ---- lines up to a text that ends them
 
-ended_failed : {A : Type 0} (o : Option (List ℕ)) (r : Result (List A × List ℕ) Fault) (f : Fault) → ended_or o r ≡ Err f → (o ≡ None) × (r ≡ Err f)
+ended_failed : {A : Type 0} (o : Option (List ℕ)) (r : Result (List A × List ℕ) FieldFault) (f : FieldFault) → ended_or o r ≡ Err f → (o ≡ None) × (r ≡ Err f)
 ended_failed None r f e = (refl, e)
 ended_failed (Some rest) r f e = absurd cc
 
@@ -481,7 +481,7 @@ item_apart : {P A : Type 0} (item : P → Format ℕ A) (next : A → P) (stop :
 item_apart item next stop p v vs rest =
     ap (λ (t : List ℕ). t ++ rest) (append_assoc ((item p).spell v) (spell_from item next (next v) vs) stop) ∙ append_assoc ((item p).spell v) (spell_from item next (next v) vs ++ stop) rest
 
-item_bad : {P A : Type 0} (item : P → Format ℕ A) (next : A → P) (stop : List ℕ) → ((p : P) → IsLine (item p)) → IsWithinLine stop → (p : P) (s : List ℕ) (f : Fault) → after_text stop s ≡ None → (item p).read s ≡ Err f
+item_bad : {P A : Type 0} (item : P → Format ℕ A) (next : A → P) (stop : List ℕ) → ((p : P) → IsLine (item p)) → IsWithinLine stop → (p : P) (s : List ℕ) (f : FieldFault) → after_text stop s ≡ None → (item p).read s ≡ Err f
     → (vs : List A) (rest more : List ℕ) → fits_from item next p vs ≡ true → ((spell_from item next p vs ++ stop) ++ rest) ≡ more → BeginAlike more s → ⊥
 item_bad item next stop lines within p s f none e [] rest more fits is alike = text_refused stop s within none rest more is alike
 item_bad item next stop lines within p s f none e (v ∷ vs) rest more fits is alike =
@@ -497,14 +497,14 @@ item_begins item next stop p v fits a good = (
   append_assoc ((item p).spell v) (spell_from item next (next v) good.0) stop ∙ ap (λ (r : List ℕ). (item p).spell v ++ r) good.3 ∙ sym (append_assoc ((item p).spell v) a good.1),
 )
 
-item_peel : {P A : Type 0} (item : P → Format ℕ A) (next : A → P) (stop : List ℕ) → ((p : P) → IsLine (item p)) → ((p : P) (v : A) (rest : List ℕ) → after_text stop ((item p).spell v ++ rest) ≡ None)
+item_untagged : {P A : Type 0} (item : P → Format ℕ A) (next : A → P) (stop : List ℕ) → ((p : P) → IsLine (item p)) → ((p : P) (v : A) (rest : List ℕ) → after_text stop ((item p).spell v ++ rest) ≡ None)
     → (p : P) (x : A) → (item p).fits x ≡ true → (vs : List A) (rest more : List ℕ) → fits_from item next p vs ≡ true → ((spell_from item next p vs ++ stop) ++ rest) ≡ (item p).spell x ++ more
     → (ws : List A) × (fits_from item next (next x) ws ≡ true) × (((spell_from item next (next x) ws ++ stop) ++ rest) ≡ more)
-item_peel item next stop lines differs p x fitting [] rest more fits is =
+item_untagged item next stop lines differs p x fitting [] rest more fits is =
     let none : after_text stop (stop ++ rest) ≡ None = ap (after_text stop) is ∙ differs p x more in
     let no_text = sym none ∙ after_again stop rest in
     absurd cc
-item_peel {A = A} item next stop lines differs p x fitting (v ∷ vs) rest more fits is =
+item_untagged {A = A} item next stop lines differs p x fitting (v ∷ vs) rest more fits is =
     let tail : List ℕ = (spell_from item next (next v) vs ++ stop) ++ rest in
     let same = same_front (item p) (lines p).law v x tail more (first_true ((item p).fits v) (fits_from item next (next v) vs) fits) fitting (sym (item_apart item next stop p v vs rest) ∙ is) in (
       vs,
@@ -516,7 +516,7 @@ one_some : (s : List ℕ) → IsOneLine s → 0 < length s
 one_some s one = omega (arith, ap length one.2, length-append one.0 (10 ∷ []))
 
 series_fault : {P A : Type 0} (item : P → Format ℕ A) (next : A → P) (stop : List ℕ) → ((p : P) → IsLine (item p)) → ((p : P) (v : A) (rest : List ℕ) → after_text stop ((item p).spell v ++ rest) ≡ None) → IsWithinLine stop
-    → (n : ℕ) (p : P) (s : List ℕ) (f : Fault) → length s < n → read_from item next stop n p s ≡ Err f → IsBadAt (until item next p stop) s f.left
+    → (n : ℕ) (p : P) (s : List ℕ) (f : FieldFault) → length s < n → read_from item next stop n p s ≡ Err f → IsBadAt (until item next p stop) s f.left
 unfolding until
 series_fault item next stop lines differs within zero p s f lt e = absurd (omega arith)
 series_fault item next stop lines differs within (suc n) p s f lt e =
@@ -532,7 +532,7 @@ series_fault item next stop lines differs within (suc n) p s f lt e =
                 let less : length h.0.1 < n = omega (arith, ap length is.is, length-append ((item p).spell h.0.0) h.0.1) in
                 after_lines (until item next (next h.0.0) stop) (until item next p stop) ((item p).spell h.0.0) h.0.1 s f.left (whole_line _ one) is.is
                 (item_begins item next stop p h.0.0 is.fits)
-                (item_peel item next stop lines differs p h.0.0 is.fits)
+                (item_untagged item next stop lines differs p h.0.0 is.fits)
                 (series_fault item next stop lines differs within n (next h.0.0) h.0.1 f less no_more)
             | inr k ↦ let never = k.2 in absurd cc
           ]
@@ -559,7 +559,7 @@ pub record IsCut (s : List ℕ) : Type 0 where
 pub cut_at : (s t : List ℕ) → IsWhole s → IsInLine t → IsCut (s ++ t)
 cut_at s t whole inside = record { lines = s; part = t; is = refl; whole = whole; inside = inside }
 
-rest_bad : {A B : Type 0} (first : Format ℕ A) (second : Format ℕ B) → IsLawful first → IsLine second → (x : A) (s : List ℕ) (f : Fault) → first.fits x ≡ true → second.read s ≡ Err f → (lines part : List ℕ) → first.spell x ≡ lines ++ part → IsInLine part
+rest_bad : {A B : Type 0} (first : Format ℕ A) (second : Format ℕ B) → IsLawful first → IsLine second → (x : A) (s : List ℕ) (f : FieldFault) → first.fits x ≡ true → second.read s ≡ Err f → (lines part : List ℕ) → first.spell x ≡ lines ++ part → IsInLine part
     → (v : A × B) (rest more : List ℕ) → (both first second).fits v ≡ true → (both first second).spell v ++ rest ≡ lines ++ more → BeginAlike more (part ++ s) → ⊥
 unfolding pair
 rest_bad first second law l x s f fitting e lines part cut inside v rest more fits is alike =
@@ -573,7 +573,7 @@ rest_bad first second law l x s f fitting e lines part cut inside v rest more fi
     line_refused second l s f e v.1 rest after (second_true (first.fits v.0) (second.fits v.1) fits) same.1
     (record { first = m.0; one = none; s_rest = alike.s_rest; s_is = refl; t_rest = alike.t_rest; t_is = m.2 })
 
-rest_fault : {A B : Type 0} (first : Format ℕ A) (second : Format ℕ B) → ReportsLine first → Each IsCut first → IsLine second → (w : B) → second.fits w ≡ true → (s : List ℕ) (f : Fault) → (both first second).read s ≡ Err f → IsBadAt (both first second) s f.left
+rest_fault : {A B : Type 0} (first : Format ℕ A) (second : Format ℕ B) → ReportsLine first → Each IsCut first → IsLine second → (w : B) → second.fits w ≡ true → (s : List ℕ) (f : FieldFault) → (both first second).read s ≡ Err f → IsBadAt (both first second) s f.left
 unfolding pair
 rest_fault first second t cuts l w fitting s f e =
     elim (step_failed (first.read s) (λ x. second.read x.1 >>= λ y. Ok ((x.0, y.0), y.1)) f e) [
@@ -639,15 +639,15 @@ reported_first format s left b = record {
   bad = λ v more fits is alike. b.bad v [] more fits (append-nil (format.spell v) ∙ is) alike;
 }
 
-more_left : {A : Type 0} (x : A × List ℕ) (f : Fault) → ended x ≡ Err f → length x.1 ≡ f.left
+more_left : {A : Type 0} (x : A × List ℕ) (f : FieldFault) → ended x ≡ Err f → length x.1 ≡ f.left
 more_left (v, []) f e = absurd cc
-more_left (v, s ∷ more) f e = let is : fault_at More (s ∷ more) ≡ f = cc in ap (λ (c : Fault). c.left) is
+more_left (v, s ∷ more) f e = let is : fault_at More (s ∷ more) ≡ f = cc in ap (λ (c : FieldFault). c.left) is
 
 no_line : (s : List ℕ) → BeginAlike [] s → ⊥
 no_line s alike = omega (arith, ap length alike.s_is, length-append alike.first (10 ∷ alike.s_rest))
 
 -- the line of each fault is the first that isn't of the form
-pub first_bad : {A : Type 0} (format : Format ℕ A) → ReportsLine format → Each IsWhole format → (s : List ℕ) (f : Fault) → read_all format s ≡ Err f → IsFirstBadLine format s (line_number s f.left)
+pub first_bad : {A : Type 0} (format : Format ℕ A) → ReportsLine format → Each IsWhole format → (s : List ℕ) (f : FieldFault) → read_all format s ≡ Err f → IsFirstBadLine format s (line_number s f.left)
 first_bad format t whole s f e =
     elim (step_failed (format.read s) ended f e) [
       | inl no_value ↦ reported_first format s f.left (t.fault s f no_value)

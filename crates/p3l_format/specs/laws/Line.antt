@@ -1,6 +1,6 @@
 -- Lines are lawful.
 use Rattle.std.proofs.Common.{◌≡◌, ℕ, List, [], ◌∷◌, Result, Ok, Err, refl}
-use Rattle.p3l_format.specs.declared.fault.Fault.{Fault}
+use Rattle.p3l_format.specs.declared.fault.FieldFault.{FieldFault}
 use Rattle.p3l_format.specs.Format.{Format}
 use Rattle.p3l_format.specs.Lawful.{IsLawful}
 use Rattle.p3l_format.specs.Line.{at_line, line, number_line}
@@ -8,7 +8,7 @@ use Rattle.p3l_format.specs.laws.Formats.{lawful_from, taken}
 use Rattle.p3l_format.specs.laws.Text.{lawful_text_then}
 use Rattle.p3l_format.specs.laws.Decimal.{lawful_number_then}
 
-at_line_ok : {A : Type 0} (s : List ℕ) (r : Result A Fault) (x : A) → at_line s r ≡ Ok x → r ≡ Ok x
+at_line_ok : {A : Type 0} (s : List ℕ) (r : Result A FieldFault) (x : A) → at_line s r ≡ Ok x → r ≡ Ok x
 at_line_ok s (Ok y) x e = e
 at_line_ok s (Err d) x e = absurd cc
 

@@ -2,41 +2,41 @@
 use Rattle.std.proofs.Common.{◌≡◌, ◌≤◌, ◌<◌, ◌⊎◌, inl, inr, ℕ, zero, suc, Bool, true, false, cond, ◌&&◌, List, [], ◌∷◌, ◌++◌, length, take, drop, ◌^◌, pos, Option, Some, None, Result, Ok, Err, refl, sym, ap, subst, ◌∙◌, append_assoc, arith, ltb}
 use Rattle.std.specs.List.{flat_map, list_all, slice_get}
 use Rattle.std.specs.Int.{Width, w32, w64, byte_len, from_be_bytes, to_be_bytes, cast_signed, cast_unsigned}
-use Rattle.std.proofs.lemmas.Bool.{cases_eq, eqb-true, lt-ltb}
+use Rattle.std.proofs.lemmas.Bool.{eqb-true, lt-ltb}
 use Rattle.std.proofs.lemmas.List.{append-nil, length-append}
 use Rattle.p3l_format.specs.declared.fault.Cause.TheVariants.{Short, Range}
-use Rattle.p3l_format.specs.declared.fault.Fault.{Fault}
+use Rattle.p3l_format.specs.declared.fault.FieldFault.{FieldFault}
 use Rattle.p3l_format.specs.Format.{Format, ◌>>=◌, tested, fault_at, within, pair, both, after, as_form, always, record_of, made, coded, read_many, counted, tagged, nothing}
 use Rattle.p3l_format.specs.Lawful.{IsLawful}
 use Rattle.p3l_format.specs.Numbers.{is_byte, number, u8_format, u32_format, u64_format, is_in, u32_in, u8_in, u32_below, block, is_i64, i64_format, one_of}
 use Rattle.p3l_format.specs.Places.{FailsAt, IsCutOff, IsPlaced, NoneIsThere, Piece, texts}
-use Rattle.p3l_format.specs.laws.Parts.{ok_is, first_true, second_true}
-use Rattle.p3l_format.specs.laws.Formats.{taken, one_spelling, IsForm, lawful_pair, lawful_after, lawful_form, lawful_within, lawful_coded, lawful_counted, lawful_tagged, lawful_nothing}
-use Rattle.p3l_format.specs.laws.Numbers.{lawful_u8, lawful_u32, lawful_u64, lawful_i64, lawful_block, lawful_one_of, IsWide, wide32, wide64}
+use Rattle.p3l_format.specs.laws.Parts.{first_true, second_true}
+use Rattle.p3l_format.specs.laws.Formats.{taken, one_spelling, IsForm, lawful_pair, lawful_after, lawful_form, lawful_within, lawful_counted, lawful_tagged, lawful_nothing}
+use Rattle.p3l_format.specs.laws.Numbers.{lawful_u8, lawful_u32, lawful_u64, lawful_i64, lawful_block, IsWide, wide32, wide64}
 
 -- ---- steps that fail
 
-abbrev failed : {A : Type 0} → Fault → Result A Fault
+abbrev failed : {A : Type 0} → FieldFault → Result A FieldFault
 failed e = Err e
 
-err_is : {A : Type 0} (d e : Fault) → failed {A = A} d ≡ failed {A = A} e → d ≡ e
+err_is : {A : Type 0} (d e : FieldFault) → failed {A = A} d ≡ failed {A = A} e → d ≡ e
 err_is d e is = cc
 
 -- a step fails, or the one after it
-bind_err : {A B : Type 0} (r : Result A Fault) (f : A → Result B Fault) (e : Fault) → (r >>= f) ≡ Err e → (r ≡ Err e) ⊎ ((x : A) × (r ≡ Ok x) × (f x ≡ Err e))
+bind_err : {A B : Type 0} (r : Result A FieldFault) (f : A → Result B FieldFault) (e : FieldFault) → (r >>= f) ≡ Err e → (r ≡ Err e) ⊎ ((x : A) × (r ≡ Ok x) × (f x ≡ Err e))
 bind_err (Ok x) f e is = inr (x, refl, is)
 bind_err (Err d) f e is = inl (ap (λ x. Err x) (err_is d e is))
 
--- what is made of a value changes no fault
-pub wrap_err : {A B : Type 0} (r : Result A Fault) (g : A → B) (e : Fault) → (r >>= λ x. Ok (g x)) ≡ Err e → r ≡ Err e
+-- making another value of a value changes no fault
+pub wrap_err : {A B : Type 0} (r : Result A FieldFault) (g : A → B) (e : FieldFault) → (r >>= λ x. Ok (g x)) ≡ Err e → r ≡ Err e
 wrap_err (Ok x) g e is = absurd cc
 wrap_err (Err d) g e is = ap (λ x. Err x) (err_is d e is)
 
-chosen_err : {A : Type 0} (b : Bool) (r : Result A Fault) (d e : Fault) → cond b r (Err d) ≡ Err e → (r ≡ Err e) ⊎ (d ≡ e)
+chosen_err : {A : Type 0} (b : Bool) (r : Result A FieldFault) (d e : FieldFault) → cond b r (Err d) ≡ Err e → (r ≡ Err e) ⊎ (d ≡ e)
 chosen_err true r d e is = inl is
 chosen_err false r d e is = inr (err_is d e is)
 
-refused_err : {A : Type 0} (b : Bool) (d e : Fault) (r : Result A Fault) → cond b (Err d) r ≡ Err e → (d ≡ e) ⊎ (r ≡ Err e)
+refused_err : {A : Type 0} (b : Bool) (d e : FieldFault) (r : Result A FieldFault) → cond b (Err d) r ≡ Err e → (d ≡ e) ⊎ (r ≡ Err e)
 refused_err true d e r is = inl (err_is d e is)
 refused_err false d e r is = inr is
 
@@ -61,20 +61,20 @@ texts-append (f ∷ fs) gs = ap (λ (l : List ℕ). f.text ++ l) (texts-append f
 -- ---- fields in a row
 
 -- a step fails with this many bytes left
-abbrev pub FailsLeft : {C : Type 0} → Result C Fault → ℕ → Type 0
-FailsLeft r left = (e : Fault) × (r ≡ Err e) × (e.left ≡ left)
+abbrev pub FailsLeft : {C : Type 0} → Result C FieldFault → ℕ → Type 0
+FailsLeft r left = (e : FieldFault) × (r ≡ Err e) × (e.left ≡ left)
 
--- what comes after a value fails within its bytes
-abbrev pub FailsInside : {A C : Type 0} → (A × List ℕ → Result C Fault) → Type 0
-FailsInside {A = A} go = (x : A × List ℕ) (e : Fault) → go x ≡ Err e → e.left ≤ length x.1
+-- the reader after a value fails within its bytes
+abbrev pub FailsInside : {A C : Type 0} → (A × List ℕ → Result C FieldFault) → Type 0
+FailsInside {A = A} go = (x : A × List ℕ) (e : FieldFault) → go x ≡ Err e → e.left ≤ length x.1
 
--- what comes after a value has these fields
-pub record Follows {A C : Type 0} (go : A × List ℕ → Result C Fault) (a : A) (fields : List Piece) (Lacks : List Piece → List ℕ → Type 0) : Type 0 where
-  pub shared : (fs more : List Piece) (rest : List ℕ) (e : Fault) → fields ≡ fs ++ more → go (a, texts fs ++ rest) ≡ Err e → e.left ≤ length rest
+-- the reader after a value has these fields
+pub record Follows {A C : Type 0} (go : A × List ℕ → Result C FieldFault) (a : A) (fields : List Piece) (Lacks : List Piece → List ℕ → Type 0) : Type 0 where
+  pub shared : (fs more : List Piece) (rest : List ℕ) (e : FieldFault) → fields ≡ fs ++ more → go (a, texts fs ++ rest) ≡ Err e → e.left ≤ length rest
   pub next : (fs more : List Piece) (f : Piece) (rest : List ℕ) → fields ≡ fs ++ f ∷ more → Lacks fs rest → FailsLeft (go (a, texts fs ++ rest)) (length rest)
   pub cut : (fs more : List Piece) (f : Piece) (rest : List ℕ) → fields ≡ fs ++ f ∷ more → IsCutOff rest f.text → go (a, texts fs ++ rest) ≡ Err (fault_at Short rest)
 
-pub row_inside : {A C : Type 0} (first : Format ℕ A) → IsPlaced first → (go : A × List ℕ → Result C Fault) → FailsInside go → (s : List ℕ) (e : Fault) → (first.read s >>= go) ≡ Err e → e.left ≤ length s
+pub row_inside : {A C : Type 0} (first : Format ℕ A) → IsPlaced first → (go : A × List ℕ → Result C FieldFault) → FailsInside go → (s : List ℕ) (e : FieldFault) → (first.read s >>= go) ≡ Err e → e.left ≤ length s
 row_inside first p go inside s e is =
     elim (bind_err (first.read s) go e is) [
       | inl no_first ↦ p.inside s e no_first
@@ -85,7 +85,7 @@ row_inside first p go inside s e is =
           omega (arith, low, length-append (first.spell h.0.0) h.0.1)
     ]
 
--- what is read where a value begins takes all the fields that the bytes share with it
+-- a value read from a beginning of another takes all the fields that the bytes share with it
 read_past : {A : Type 0} (first : Format ℕ A) (p : IsPlaced first) (a : A) (fs m : List Piece) (rest : List ℕ) (x : A × List ℕ) → first.fits a ≡ true → p.fields a ≡ fs ++ m
     → first.read (texts fs ++ rest) ≡ Ok x → length x.1 ≤ length rest
 read_past first p a fs m rest x fits is read =
@@ -103,15 +103,15 @@ read_past first p a fs m rest x fits is read =
     ]
 
 -- after all fields of a value what follows is read
-row_goes : {A C : Type 0} (first : Format ℕ A) (p : IsPlaced first) (go : A × List ℕ → Result C Fault) (a : A) (fs m : List Piece) (rest : List ℕ) → first.fits a ≡ true → fs ≡ p.fields a ++ m
+row_goes : {A C : Type 0} (first : Format ℕ A) (p : IsPlaced first) (go : A × List ℕ → Result C FieldFault) (a : A) (fs m : List Piece) (rest : List ℕ) → first.fits a ≡ true → fs ≡ p.fields a ++ m
     → (first.read (texts fs ++ rest) >>= go) ≡ go (a, texts m ++ rest)
 row_goes first p go a fs m rest fits is =
     ap (λ (s : List ℕ). first.read s >>= go)
     (ap (λ (l : List Piece). texts l ++ rest) is ∙ ap (λ (l : List ℕ). l ++ rest) (texts-append (p.fields a) m ∙ ap (λ (l : List ℕ). l ++ texts m) (p.joined a)) ∙ append_assoc (first.spell a) (texts m) rest)
     ∙ rw (p.law.again a (texts m ++ rest) fits) refl
 
-pub row_shared : {A C : Type 0} (first : Format ℕ A) (p : IsPlaced first) (go : A × List ℕ → Result C Fault) → FailsInside go → (a : A) (g : List Piece) (Lacks : List Piece → List ℕ → Type 0) → Follows go a g Lacks → first.fits a ≡ true
-    → (fs more : List Piece) (rest : List ℕ) (e : Fault) → p.fields a ++ g ≡ fs ++ more → (first.read (texts fs ++ rest) >>= go) ≡ Err e → e.left ≤ length rest
+pub row_shared : {A C : Type 0} (first : Format ℕ A) (p : IsPlaced first) (go : A × List ℕ → Result C FieldFault) → FailsInside go → (a : A) (g : List Piece) (Lacks : List Piece → List ℕ → Type 0) → Follows go a g Lacks → first.fits a ≡ true
+    → (fs more : List Piece) (rest : List ℕ) (e : FieldFault) → p.fields a ++ g ≡ fs ++ more → (first.read (texts fs ++ rest) >>= go) ≡ Err e → e.left ≤ length rest
 row_shared first p go inside a g Lacks follows fits fs more rest e is fails =
     elim (split_two (p.fields a) g fs more is) [
       | inl h ↦
@@ -122,7 +122,7 @@ row_shared first p go inside a g Lacks follows fits fs more rest e is fails =
       | inr h ↦ follows.shared h.0 more rest e h.2 (sym (row_goes first p go a fs h.0 rest fits h.1) ∙ fails)
     ]
 
--- where the next field of a row is: in the first value, or in what follows it
+-- the next field of a row is in the first value, or in those after it
 next_in : (a g fs more : List Piece) (f : Piece) → a ++ g ≡ fs ++ f ∷ more → ((m : List Piece) × (a ≡ fs ++ f ∷ m)) ⊎ ((m : List Piece) × (fs ≡ a ++ m) × (g ≡ m ++ f ∷ more))
 next_in a g fs more f is =
     elim (split_two a g fs (f ∷ more) is) [
@@ -136,7 +136,7 @@ next_in a g fs more f is =
         let same : f ≡ y = cc in
         inl (m, at ∙ ap (λ (z : Piece). fs ++ z ∷ m) (sym same))
 
-pub row_next : {A C : Type 0} (first : Format ℕ A) (p : IsPlaced first) (go : A × List ℕ → Result C Fault) (a : A) (g : List Piece) (Lacks : List Piece → List ℕ → Type 0) → Follows go a g Lacks → first.fits a ≡ true
+pub row_next : {A C : Type 0} (first : Format ℕ A) (p : IsPlaced first) (go : A × List ℕ → Result C FieldFault) (a : A) (g : List Piece) (Lacks : List Piece → List ℕ → Type 0) → Follows go a g Lacks → first.fits a ≡ true
     → (fs more : List Piece) (f : Piece) (rest : List ℕ) → p.fields a ++ g ≡ fs ++ f ∷ more
     → ((m : List Piece) → p.fields a ≡ fs ++ f ∷ m → NoneIsThere p.fields fs rest) → ((m : List Piece) → fs ≡ p.fields a ++ m → Lacks m rest)
     → FailsLeft (first.read (texts fs ++ rest) >>= go) (length rest)
@@ -145,10 +145,10 @@ row_next {C = C} first p go a g Lacks follows fits fs more f rest is in_first in
       | inl h ↦
           let n = p.next a fs h.0 f rest fits h.1 (in_first h.0 h.1) in
           (n.fault, rw n.refused refl, n.place)
-      | inr h ↦ subst (λ (r : Result C Fault). FailsLeft r (length rest)) (sym (row_goes first p go a fs h.0 rest fits h.1)) (follows.next h.0 more f rest h.2 (in_next h.0 h.1))
+      | inr h ↦ subst (λ (r : Result C FieldFault). FailsLeft r (length rest)) (sym (row_goes first p go a fs h.0 rest fits h.1)) (follows.next h.0 more f rest h.2 (in_next h.0 h.1))
     ]
 
-pub row_cut : {A C : Type 0} (first : Format ℕ A) (p : IsPlaced first) (go : A × List ℕ → Result C Fault) (a : A) (g : List Piece) (Lacks : List Piece → List ℕ → Type 0) → Follows go a g Lacks → first.fits a ≡ true
+pub row_cut : {A C : Type 0} (first : Format ℕ A) (p : IsPlaced first) (go : A × List ℕ → Result C FieldFault) (a : A) (g : List Piece) (Lacks : List Piece → List ℕ → Type 0) → Follows go a g Lacks → first.fits a ≡ true
     → (fs more : List Piece) (f : Piece) (rest : List ℕ) → p.fields a ++ g ≡ fs ++ f ∷ more → IsCutOff rest f.text → (first.read (texts fs ++ rest) >>= go) ≡ Err (fault_at Short rest)
 row_cut first p go a g Lacks follows fits fs more f rest is off =
     elim (next_in (p.fields a) g fs more f is) [
@@ -187,7 +187,7 @@ placed_pair {A = A} {B = B} first second p q = record {
     fields : A × B → List Piece
     fields v = p.fields v.0 ++ (q v.0).fields v.1
 
-    go : A × List ℕ → Result ((A × B) × List ℕ) Fault
+    go : A × List ℕ → Result ((A × B) × List ℕ) FieldFault
     go x = (second x.0).read x.1 >>= λ y. Ok ((x.0, y.0), y.1)
 
     inside : FailsInside go
@@ -209,7 +209,7 @@ placed_both first second p q = placed_pair first (λ _. second) p (λ _. q)
 pub record IsOne {A : Type 0} (format : Format ℕ A) : Type 0 where
   pub law : IsLawful format
   pub any : A
-  pub front : (s : List ℕ) (e : Fault) → format.read s ≡ Err e → e.left ≡ length s
+  pub front : (s : List ℕ) (e : FieldFault) → format.read s ≡ Err e → e.left ≡ length s
   pub short : (v : A) (s : List ℕ) → format.fits v ≡ true → IsCutOff s (format.spell v) → format.read s ≡ Err (fault_at Short s)
 
 -- the field that a value is
@@ -219,7 +219,7 @@ piece_of format v = record { text = format.spell v; right = format.fits v }
 abbrev pub one_field : {A : Type 0} → Format ℕ A → A → List Piece
 one_field format v = piece_of format v ∷ []
 
-pub one_shared : {A : Type 0} (format : Format ℕ A) → IsOne format → (v : A) (fs more : List Piece) (rest : List ℕ) (e : Fault) → format.fits v ≡ true → one_field format v ≡ fs ++ more
+pub one_shared : {A : Type 0} (format : Format ℕ A) → IsOne format → (v : A) (fs more : List Piece) (rest : List ℕ) (e : FieldFault) → format.fits v ≡ true → one_field format v ≡ fs ++ more
     → format.read (texts fs ++ rest) ≡ Err e → e.left ≤ length rest
 one_shared format o v [] more rest e fits is fails = let at = o.front rest e fails in omega arith
 one_shared format o v (f ∷ []) more rest e fits is fails =
@@ -229,7 +229,7 @@ one_shared format o v (f ∷ []) more rest e fits is fails =
     absurd cc
 one_shared format o v (f ∷ g ∷ fs) more rest e fits is fails = absurd cc
 
-fails_or : {A : Type 0} (format : Format ℕ A) → IsOne format → (rest : List ℕ) → NoneIsThere (one_field format) [] rest → (r : Result (A × List ℕ) Fault) → format.read rest ≡ r → FailsAt format rest (length rest)
+fails_or : {A : Type 0} (format : Format ℕ A) → IsOne format → (rest : List ℕ) → NoneIsThere (one_field format) [] rest → (r : Result (A × List ℕ) FieldFault) → format.read rest ≡ r → FailsAt format rest (length rest)
 fails_or format o rest none (Ok x) is =
     absurd (none x.0 (piece_of format x.0) [] x.1 refl (o.law.fitting rest x.0 x.1 is) (o.law.spelled rest x.0 x.1 is))
 fails_or format o rest none (Err e) is = record { fault = e; refused = is; place = o.front rest e is }
@@ -291,7 +291,7 @@ placed_after {H = H} {A = A} head it inner only o q = record {
     p : IsPlaced head
     p = placed_one head o
 
-    go : H × List ℕ → Result (A × List ℕ) Fault
+    go : H × List ℕ → Result (A × List ℕ) FieldFault
     go x = inner.read x.1
 
     inside : FailsInside go
@@ -335,7 +335,7 @@ placed_tagged {T = T} {A = A} tag tag_of row p q has turn it = record {
     fields : A → List Piece
     fields v = p.fields (tag_of v) ++ (q (tag_of v)).fields v
 
-    go : T × List ℕ → Result (A × List ℕ) Fault
+    go : T × List ℕ → Result (A × List ℕ) FieldFault
     go x = (row x.0).read x.1
 
     inside : FailsInside go
@@ -350,14 +350,14 @@ placed_tagged {T = T} {A = A} tag tag_of row p q has turn it = record {
 
 -- ---- a list with its count
 
-pub many_inside : {A : Type 0} (item : Format ℕ A) → IsPlaced item → (n : ℕ) (s : List ℕ) (e : Fault) → read_many item.read n s ≡ Err e → e.left ≤ length s
+pub many_inside : {A : Type 0} (item : Format ℕ A) → IsPlaced item → (n : ℕ) (s : List ℕ) (e : FieldFault) → read_many item.read n s ≡ Err e → e.left ≤ length s
 many_inside item q zero s e is = absurd cc
 many_inside {A = A} item q (suc n) s e is =
     row_inside item q (λ x. read_many item.read n x.1 >>= λ y. Ok (x.0 ∷ y.0, y.1))
     (λ x d no_rest. many_inside item q n x.1 d (wrap_err (read_many item.read n x.1) (λ (y : List A × List ℕ). (x.0 ∷ y.0, y.1)) d no_rest)) s e is
 
--- what comes after a list's first value
-abbrev many_go : {A : Type 0} → Format ℕ A → ℕ → A × List ℕ → Result (List A × List ℕ) Fault
+-- the reader of a list after its first value
+abbrev many_go : {A : Type 0} → Format ℕ A → ℕ → A × List ℕ → Result (List A × List ℕ) FieldFault
 many_go item n x = read_many item.read n x.1 >>= λ y. Ok (x.0 ∷ y.0, y.1)
 
 go_inside : {A : Type 0} (item : Format ℕ A) → IsPlaced item → (n : ℕ) → FailsInside (many_go item n)
@@ -370,7 +370,7 @@ NoneOfMany {A = A} fields n fs rest =
 
 -- the fields of a list's values, and how the list fails
 pub record ManyFollow {A : Type 0} (item : Format ℕ A) (q : IsPlaced item) (vs : List A) : Type 0 where
-  pub shared : (fs more : List Piece) (rest : List ℕ) (e : Fault) → flat_map q.fields vs ≡ fs ++ more → read_many item.read (length vs) (texts fs ++ rest) ≡ Err e → e.left ≤ length rest
+  pub shared : (fs more : List Piece) (rest : List ℕ) (e : FieldFault) → flat_map q.fields vs ≡ fs ++ more → read_many item.read (length vs) (texts fs ++ rest) ≡ Err e → e.left ≤ length rest
   pub next : (fs more : List Piece) (f : Piece) (rest : List ℕ) → flat_map q.fields vs ≡ fs ++ f ∷ more → NoneOfMany q.fields (length vs) fs rest → FailsLeft (read_many item.read (length vs) (texts fs ++ rest)) (length rest)
   pub cut : (fs more : List Piece) (f : Piece) (rest : List ℕ) → flat_map q.fields vs ≡ fs ++ f ∷ more → IsCutOff rest f.text → read_many item.read (length vs) (texts fs ++ rest) ≡ Err (fault_at Short rest)
 
@@ -441,7 +441,7 @@ placed_counted {A = A} count item p q = record {
     fields : List A → List Piece
     fields vs = p.fields (length vs) ++ flat_map (q (length vs)).fields vs
 
-    go : ℕ × List ℕ → Result (List A × List ℕ) Fault
+    go : ℕ × List ℕ → Result (List A × List ℕ) FieldFault
     go n = read_many (item n.0).read n.0 n.1
 
     inside : FailsInside go
@@ -494,7 +494,7 @@ placed_form {A = A} good make parts inner form p all = record {
   cut = λ v fs more f rest fits is off. rw (p.cut (parts v) fs more f rest (second_true (good v) (inner.fits (parts v)) fits) is off) refl;
 }
 
--- where the parts of what is made are those that it was made of
+-- `HasAll` holds if the parts of a made value are those that it was made of
 pub has_all : {A B : Type 0} (make : A → B) (parts : B → A) (fields : A → List Piece) → ((a : A) → parts (make a) ≡ a) → HasAll parts fields
 has_all make parts fields back a fs more g has right = (make a, more, ap fields (back a) ∙ has)
 
@@ -504,8 +504,8 @@ placed_record make parts inner back there p =
 
 -- ---- numbers
 
-left_is : (d e : Fault) → d ≡ e → e.left ≡ d.left
-left_is d e is = ap (λ (f : Fault). f.left) (sym is)
+left_is : (d e : FieldFault) → d ≡ e → e.left ≡ d.left
+left_is d e is = ap (λ (f : FieldFault). f.left) (sym is)
 
 off_len : (s w : List ℕ) → IsCutOff s w → length s < length w
 off_len s w off =
@@ -537,7 +537,7 @@ one_u32 = one_number w32 (2 ^ 32) wide32 lawful_u32
 pub one_u64 : IsOne u64_format
 one_u64 = one_number w64 (2 ^ 64) wide64 lawful_u64
 
-u8_front : (s : List ℕ) (e : Fault) → u8_format.read s ≡ Err e → e.left ≡ length s
+u8_front : (s : List ℕ) (e : FieldFault) → u8_format.read s ≡ Err e → e.left ≡ length s
 unfolding u8_format
 u8_front [] e fails = left_is (fault_at {S = ℕ} Short []) e (err_is (fault_at {S = ℕ} Short []) e fails)
 u8_front (b ∷ s) e fails =
@@ -588,7 +588,7 @@ one_within test inner o = record {
   short = λ v s fits off. rw (o.short v s (first_true (inner.fits v) (test v) fits) off) refl;
 }
 
-made_err : {A : Type 0} (o : Option A) (s rest : List ℕ) (e : Fault) → made o s rest ≡ Err e → e.left ≡ length s
+made_err : {A : Type 0} (o : Option A) (s rest : List ℕ) (e : FieldFault) → made o s rest ≡ Err e → e.left ≡ length s
 made_err None s rest e fails = left_is (fault_at Range s) e (err_is (fault_at Range s) e fails)
 made_err (Some v) s rest e fails = absurd cc
 

@@ -1,7 +1,7 @@
 -- Values up to a text that ends them are lawful.
 use Rattle.std.proofs.Common.{◌≡◌, ℕ, zero, suc, ◌<◌, ◌≤◌, Bool, true, List, [], ◌∷◌, ◌++◌, length, Option, Some, None, Result, Ok, Err, refl, sym, ap, subst, ◌∙◌, append_assoc, arith}
 use Rattle.std.proofs.lemmas.List.{length-append}
-use Rattle.p3l_format.specs.declared.fault.Fault.{Fault}
+use Rattle.p3l_format.specs.declared.fault.FieldFault.{FieldFault}
 use Rattle.p3l_format.specs.declared.fault.Cause.TheVariants.{Range}
 use Rattle.p3l_format.specs.Format.{Format, fault_at, ◌>>=◌}
 use Rattle.p3l_format.specs.Lawful.{IsLawful, IsLawfulBefore}
@@ -11,10 +11,10 @@ use Rattle.p3l_format.specs.laws.Parts.{bind_ok, ok_is, both_true, first_true, s
 use Rattle.p3l_format.specs.laws.Formats.{lawful_from, joined}
 use Rattle.p3l_format.specs.laws.Text.{after_again, after_is, taken_before}
 
--- what the laws of such values need
+-- the conditions for the laws of a series
 pub record IsSeries {P A : Type 0} (fine : List ℕ → Bool) (item : P → Format ℕ A) (stop : List ℕ) : Type 0 where
   pub items : (p : P) → IsLawfulBefore fine (item p)
-  -- what follows an item is fine
+  -- a text that begins with an item is fine
   pub starts : (p : P) (v : A) (rest : List ℕ) → fine ((item p).spell v ++ rest) ≡ true
   pub stops : (rest : List ℕ) → fine (stop ++ rest) ≡ true
   -- no item begins as the end does, and none is empty
@@ -41,12 +41,12 @@ from_again {A = A} fine item next stop series (suc n) p (v ∷ vs) rest le fits 
     let more = from_again fine item next stop series n (next v) vs rest (omega arith) (second_true ((item p).fits v) _ fits) in
     ap (read_from item next stop (suc n) p) parts ∙ rw (series.differs p v tail, read, more) refl
 
-ended_some : {A : Type 0} (o : Option (List ℕ)) (r : Result (List A × List ℕ) Fault) (x : List A × List ℕ) (P : Type 0) → ended_or o r ≡ Ok x
+ended_some : {A : Type 0} (o : Option (List ℕ)) (r : Result (List A × List ℕ) FieldFault) (x : List A × List ℕ) (P : Type 0) → ended_or o r ≡ Ok x
     → ((rest : List ℕ) → o ≡ Some rest → ◌≡◌ {A = List A × List ℕ} ([], rest) x → P) → (o ≡ None → r ≡ Ok x → P) → P
 ended_some None r x P e done goes = goes refl e
 ended_some (Some rest) r x P e done goes = done rest refl (ok_is ([], rest) x e)
 
--- what a successful reading of a series says
+-- a series was read: its items fit, and the text is their spelling, the end and the rest
 pub record IsTaken {P A : Type 0} (item : P → Format ℕ A) (next : A → P) (stop : List ℕ) (p : P) (s : List ℕ) (x : List A × List ℕ) : Type 0 where
   pub fits : fits_from item next p x.0 ≡ true
   pub is : s ≡ (spell_from item next p x.0 ++ stop) ++ x.1

@@ -3,7 +3,7 @@ use Rattle.std.proofs.Common.{◌≡◌, ℕ, ◌+◌, Bool, true, false, cond, 
 use Rattle.std.specs.Str.{bytes_eq}
 use Rattle.std.specs.Option.{MatchOption, option_map}
 use Rattle.std.proofs.lemmas.Bool.{eqb-true, eq-eqb, ne_eqb, cases_eq}
-use Rattle.p3l_format.specs.declared.fault.Fault.{Fault}
+use Rattle.p3l_format.specs.declared.fault.FieldFault.{FieldFault}
 use Rattle.p3l_format.specs.Format.{Format}
 use Rattle.p3l_format.specs.Lawful.{IsLawful, IsLawfulBefore}
 use Rattle.p3l_format.specs.Text.{after_text, go_on, text_then, then_text}
@@ -27,7 +27,7 @@ taken_before fine format law s x e = record { fits = law.fitting s x.0 x.1 e; is
 
 -- ---- texts
 
--- what is after a text
+-- the rest after a text is found again
 pub after_again : (text rest : List ℕ) → after_text text (text ++ rest) ≡ Some rest
 after_again [] rest = refl
 after_again (b ∷ bs) rest = rw (eq-eqb b b refl) (after_again bs rest)
@@ -41,7 +41,7 @@ after_is (b ∷ bs) (c ∷ s) rest e =
     let more : s ≡ bs ++ rest = after_is bs s rest h.1 in
     cc
 
-went_on : {A : Type 0} (read : List ℕ → Result A Fault) (s : List ℕ) (o : Option (List ℕ)) (x : A) → go_on read s o ≡ Ok x → (rest : List ℕ) × (o ≡ Some rest) × (read rest ≡ Ok x)
+went_on : {A : Type 0} (read : List ℕ → Result A FieldFault) (s : List ℕ) (o : Option (List ℕ)) (x : A) → go_on read s o ≡ Ok x → (rest : List ℕ) × (o ≡ Some rest) × (read rest ≡ Ok x)
 went_on read s None x e = absurd cc
 went_on read s (Some rest) x e = (rest, refl, e)
 
@@ -102,7 +102,7 @@ after_by_take (b ∷ bs) (c ∷ s) =
       | inr other ↦ rw (ne_eqb b c other, ne_eqb c b (λ e. other (sym e))) refl
     ]
 
--- what stripping a text gives
+-- stripping a text gives the rest after it, if it is there
 pub stripped : (text s : List ℕ) (r : Option (Bor (List ℕ))) → MatchOption r (bytes_eq (take (length text) s) text ≡ false)
     (λ x. (bytes_eq (take (length text) s) text ≡ true) × (x.now ≡ drop (length text) s) × (length x.now + length text ≡ length s))
     → option_map (λ x. x.now) r ≡ after_text text s

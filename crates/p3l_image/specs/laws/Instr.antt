@@ -135,7 +135,7 @@ lawful_operands kind.JumpNonZero = lawful_form _ _ _ _ (record { back = λ _ _. 
 lawful_operands kind.Turn = lawful_nothing _ _ refl of_turn
 lawful_operands kind.End = lawful_nothing _ _ refl of_end
 
--- what fits the operands of a kind is of that kind
+-- an instruction that fits the operands of a kind is of that kind
 pub operands_has : (k : InstrKind) (v : Instr) → (operands k).fits v ≡ true → is_kind k v ≡ true
 unfolding operands as_form nothing
 operands_has kind.Push v e = first_true (is_kind kind.Push v) _ e

@@ -3,7 +3,6 @@ use Rattle.std.proofs.Common.{◌≡◌, ℕ, length, refl}
 use Rattle.p3l_base.specs.Limits.{most_tokens}
 use Rattle.p3l_ast.specs.declared.expression.UnOp.TheVariants.{Neg}
 use Rattle.p3l_ast.specs.declared.expression.BinOp.TheVariants.{Or}
-use Rattle.p3l_code.specs.declared.instr.Instr.{Instr}
 use Rattle.p3l_code.specs.declared.instr.Instr.TheVariants as instr
 use Rattle.p3l_firing.specs.declared.process.ProcKind.TheVariants.{Source}
 use Rattle.p3l_format.specs.Places.{IsPlaced}

@@ -1,9 +1,9 @@
--- The tokens that Tail holds. Where one has the number n, the one that Tail picks has this number,
--- and the others stay as they are (`found`).
--- Where none has it, there is none among the numbered tokens (`not_found`).
+-- The tokens that Tail holds. If one has the number n, the one that Tail picks has this number,
+-- and the others are unchanged (`found`).
+-- If none has it, it is not among the numbered tokens (`not_found`).
 use Rattle.std.proofs.Common.{◌≡◌, ℕ, inl, inr, ◌||◌, cond, nat_eq, true, false, List, [], ◌∷◌, ◌++◌, map, sym, ap, ◌∙◌, eqb-true, eq-eqb}
 use Rattle.std.proofs.lemmas.Bool.{cases_Bool, cond-true, cond-false}
-use Rattle.p3l_firing.specs.Token.{peeled, second_tag}
+use Rattle.p3l_firing.specs.Token.{untagged, second_tag}
 use Rattle.p3l_firing.specs.declared.token.Token.{Token}
 use Rattle.p3l_firing.specs.kinds.Tail.{has_number, pick_number, drop_number}
 use Rattle.p3l_template.specs.Bag.{look}
@@ -42,13 +42,13 @@ found n (x ∷ xs) h =
           }
     ]
 
-pub not_found : (n : ℕ) (held : List Token) → has_number n held ≡ false → look n (map peeled held) ≡ []
+pub not_found : (n : ℕ) (held : List Token) → has_number n held ≡ false → look n (map untagged held) ≡ []
 unfolding has_number
 not_found n [] h = look_empty n
 not_found n (x ∷ xs) h =
     elim (cases_Bool (nat_eq (second_tag x) n)) [
       | inl e ↦ let z : true ≡ false = sym (ap (λ b. b || has_number n xs) e) ∙ h in cc
       | inr e ↦
-          look_there n (peeled x) (map peeled xs) (λ d. let z : true ≡ false = sym (eq-eqb _ _ d) ∙ e in cc)
+          look_there n (untagged x) (map untagged xs) (λ d. let z : true ≡ false = sym (eq-eqb _ _ d) ∙ e in cc)
           ∙ not_found n xs (sym (ap (λ b. b || has_number n xs) e) ∙ h)
     ]

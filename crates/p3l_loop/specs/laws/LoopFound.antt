@@ -3,7 +3,7 @@ use Rattle.std.proofs.Common.{◌≡◌, ℕ, ◌+◌, ◌-◌, ◌&&◌, nat_eq
 use Rattle.std.proofs.lemmas.List.{map-append}
 use Rattle.p3l_firing.specs.Nodes.{turns_of}
 use Rattle.p3l_firing.specs.State.{State}
-use Rattle.p3l_firing.specs.Token.{over, peeled, newest_tag}
+use Rattle.p3l_firing.specs.Token.{over, untagged, newest_tag}
 use Rattle.p3l_firing.specs.declared.token.Token.{Token}
 use Rattle.p3l_loop.specs.Loop.{Laps, View, settled, bag, in_turns, to_come, well_kept, laps_of, view_of, loop_over, loop_shape}
 use Rattle.p3l_template.specs.Bag.{read, numbered, all_within}
@@ -11,9 +11,9 @@ use Rattle.p3l_template.specs.Part.{Part, line, all_orderly}
 use Rattle.p3l_template.specs.Placed.{proc_end, chan_end}
 use Rattle.p3l_template.specs.Shape.{Base, Role}
 use Rattle.p3l_template.specs.Units.{Units}
-use Rattle.p3l_template.specs.Finding.{bare, bares, pending_of, line_of, AreSeated, EndsAt, IsFoundShape}
+use Rattle.p3l_template.specs.Finding.{bare, bares, pending_of, line_of, AreSlots, EndsAt, IsFoundShape}
 use Rattle.p3l_loop.specs.LoopKind.{Seen, seen_bag, is_counted, seen_of, found_by, loop_finds}
-use Rattle.p3l_template.specs.laws.BareLaw.{bares-bares, bares-over, bares-peeled, bares-length, bares-line, read-bare, numbered-bare, all_within-bare, and-true, and-assoc}
+use Rattle.p3l_template.specs.laws.BareLaw.{bares-bares, bares-over, bares-untagged, bares-length, bares-line, read-bare, numbered-bare, all_within-bare, and-true, and-assoc}
 
 pub turns-within : (m : ℕ) (xs : List Token) → in_turns m xs ≡ all_within 1 (2 + (m - 1)) xs
 unfolding in_turns all_within
@@ -23,10 +23,10 @@ turns-within m (x ∷ xs) = ap (λ b. (nat_lt 0 (newest_tag x) && nat_lt (newest
 turns-bare : (m : ℕ) (xs : List Token) → in_turns m (bares xs) ≡ in_turns m xs
 turns-bare m xs = turns-within m (bares xs) ∙ all_within-bare 1 (2 + (m - 1)) xs ∙ sym (turns-within m xs)
 
-bares-settled : (l : Laps) (xs : List Token) → bares (map (settled l) xs) ≡ map peeled (bares xs)
+bares-settled : (l : Laps) (xs : List Token) → bares (map (settled l) xs) ≡ map untagged (bares xs)
 unfolding settled
 bares-settled l [] = refl
-bares-settled l (x ∷ xs) = ap (λ z. peeled (bare x) ∷ z) (bares-settled l xs)
+bares-settled l (x ∷ xs) = ap (λ z. untagged (bare x) ∷ z) (bares-settled l xs)
 
 -- the view without outcomes
 abbrev seen : View → Seen
@@ -42,9 +42,9 @@ module _ (l : Laps) (tokens : ℕ) (v : View) where
   bag-bare : seen_bag (seen v) ≡ bares (bag l v)
   unfolding seen_bag bag
   bag-bare =
-      ap₂ (λ a b. map peeled a ++ map peeled b) (bares-bares v.held) (bares-bares v.ring)
-      ∙ ap₂ (λ a b. a ++ b) (sym (bares-peeled v.held)) (sym (bares-settled l v.ring))
-      ∙ sym (map-append bare (map peeled v.held) (map (settled l) v.ring))
+      ap₂ (λ a b. map untagged a ++ map untagged b) (bares-bares v.held) (bares-bares v.ring)
+      ∙ ap₂ (λ a b. a ++ b) (sym (bares-untagged v.held)) (sym (bares-settled l v.ring))
+      ∙ sym (map-append bare (map untagged v.held) (map (settled l) v.ring))
 
   bag-length : length (seen_bag (seen v)) ≡ length (bag l v)
   bag-length = ap length bag-bare ∙ bares-length (bag l v)
@@ -97,32 +97,32 @@ module _ (node tokens : ℕ) (units : Units) (base : Base) (s : State) where
       ∙ come-bare (laps_of units node Q) tokens (view_of base Q s))
 
 loop-orderly : (node tokens : ℕ) (units : Units) (roles : ℕ → Role) (base : Base) (parts : List Part) (s : State) →
-    AreSeated ((loop_shape node tokens).seats base) parts →
+    AreSlots ((loop_shape node tokens).slots base) parts →
     ((loop_shape node tokens).part units roles base parts).orderly s
     ≡ (all_orderly parts s && (loop_finds node tokens units.tree base s (map (pending_of s) parts)).orderly)
-unfolding AreSeated loop_finds all_orderly
-loop-orderly node tokens units roles base [] s seated = absurd seated
-loop-orderly node tokens units roles base (Q ∷ []) s seated =
-    over-orderly node tokens units base s Q seated.0.0 seated.0.1
+unfolding AreSlots loop_finds all_orderly
+loop-orderly node tokens units roles base [] s slotted = absurd slotted
+loop-orderly node tokens units roles base (Q ∷ []) s slotted =
+    over-orderly node tokens units base s Q slotted.0.0 slotted.0.1
     ∙ ap (λ b. b && (found_by (turns_of units.tree node) tokens (seen_of base s (pending_of s Q))).orderly) (sym (and-true (Q.orderly s)))
-loop-orderly node tokens units roles base (Q ∷ (R ∷ Rs)) s seated = absurd seated.1
+loop-orderly node tokens units roles base (Q ∷ (R ∷ Rs)) s slotted = absurd slotted.1
 
 loop-pending : (node tokens : ℕ) (units : Units) (roles : ℕ → Role) (base : Base) (parts : List Part) (s : State) →
-    AreSeated ((loop_shape node tokens).seats base) parts →
+    AreSlots ((loop_shape node tokens).slots base) parts →
     pending_of s ((loop_shape node tokens).part units roles base parts)
     ≡ (loop_finds node tokens units.tree base s (map (pending_of s) parts)).pending
-unfolding AreSeated loop_finds
-loop-pending node tokens units roles base [] s seated = absurd seated
-loop-pending node tokens units roles base (Q ∷ []) s seated = over-pending node tokens units base s Q seated.0.0 seated.0.1
-loop-pending node tokens units roles base (Q ∷ (R ∷ Rs)) s seated = absurd seated.1
+unfolding AreSlots loop_finds
+loop-pending node tokens units roles base [] s slotted = absurd slotted
+loop-pending node tokens units roles base (Q ∷ []) s slotted = over-pending node tokens units base s Q slotted.0.0 slotted.0.1
+loop-pending node tokens units roles base (Q ∷ (R ∷ Rs)) s slotted = absurd slotted.1
 
 loop-ends : (node tokens : ℕ) (units : Units) (roles : ℕ → Role) (base : Base) (parts : List Part) →
-    AreSeated ((loop_shape node tokens).seats base) parts →
+    AreSlots ((loop_shape node tokens).slots base) parts →
     EndsAt (loop_shape node tokens) base parts ((loop_shape node tokens).part units roles base parts)
-unfolding AreSeated proc_end chan_end
-loop-ends node tokens units roles base [] seated = absurd seated
-loop-ends node tokens units roles base (Q ∷ []) seated = record { input = refl; output = refl; proc_to = refl; chan_to = refl }
-loop-ends node tokens units roles base (Q ∷ (R ∷ Rs)) seated = absurd seated.1
+unfolding AreSlots proc_end chan_end
+loop-ends node tokens units roles base [] slotted = absurd slotted
+loop-ends node tokens units roles base (Q ∷ []) slotted = record { input = refl; output = refl; proc_to = refl; chan_to = refl }
+loop-ends node tokens units roles base (Q ∷ (R ∷ Rs)) slotted = absurd slotted.1
 
 pub loop_found : (node tokens : ℕ) → IsFoundShape (loop_shape node tokens) (loop_finds node tokens)
 loop_found node tokens = record {

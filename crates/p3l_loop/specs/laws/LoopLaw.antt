@@ -8,8 +8,8 @@ use Rattle.p3l_base.specs.declared.outcome.Outcome.{Outcome}
 use Rattle.p3l_firing.specs.Fire.{row_can, can_fire}
 use Rattle.p3l_firing.specs.Ways.{eyes_of, SendsRound, LetsIn, LetsOut, TakesTurn, row_ways, MayFire}
 use Rattle.p3l_firing.specs.Lists.{first_or, rest_of, has_first}
-use Rattle.p3l_firing.specs.State.{Own, State, pop, push, set_own, counted, has_room, chan_at, no_chan, at_first, fresh}
-use Rattle.p3l_firing.specs.Token.{over, has_trap, credit, first_tag, newest_tag, peeled, admitted, once_more}
+use Rattle.p3l_firing.specs.State.{LocalState, State, pop, push, set_own, counted, has_room, chan_at, no_chan, at_first, fresh}
+use Rattle.p3l_firing.specs.Token.{over, has_trap, credit, first_tag, newest_tag, untagged, admitted, once_more}
 use Rattle.p3l_firing.specs.declared.net.Net.{Net}
 use Rattle.p3l_firing.specs.declared.token.Token.{Token}
 use Rattle.p3l_firing.specs.kinds.Head.{sent_round, let_in}
@@ -19,8 +19,8 @@ use Rattle.p3l_loop.specs.laws.HeldLaw.{found, not_found}
 use Rattle.p3l_loop.specs.laws.ViewLaw.{view_line, Kept, kept_to, kept_from, Goes, let_in_view, let_in_goes, hold_view, hold_goes, again_view, again_goes, release_view, release_goes, ring_append, after_again, next_turn, turns_rest, ring_bound, all_bound}
 use Rattle.p3l_template.specs.Bag.{read, look}
 use Rattle.p3l_template.specs.Part.{Part, IsLawfulPart, IsSized, in_channels, in_hands, inside, line, IsInside, IsSameInside, IsAlike, Moves, IsFresh, Begins, IsDrained, due, no_part}
-use Rattle.p3l_template.specs.Placed.{IsLawfulShape, LiesAt, IsGoodSeat, IsPlaced, AreLaid, HaveRoom, IsSeated, AreStanding, AreChained, proc_end, chan_end}
-use Rattle.p3l_template.specs.Shape.{empty_chan, Role, Base, no_seat}
+use Rattle.p3l_template.specs.Placed.{IsLawfulShape, LiesAt, IsGoodSlot, IsPlaced, AreLaid, HaveRoom, IsSlot, AreStanding, AreChained, proc_end, chan_end}
+use Rattle.p3l_template.specs.Shape.{empty_chan, Role, Base, no_slot}
 use Rattle.p3l_template.specs.Units.{Units}
 use Rattle.p3l_template.specs.laws.BagLaw.{without_count, read_length}
 use Rattle.p3l_template.specs.laws.Lists.{none_left}
@@ -66,7 +66,7 @@ unfoldable release_state : Base → State → State
 release_state base s =
     set_own
     (push (push s base.output
-    (peeled (peeled (pick_number (s.own (base.proc + 1)).number (s.own (base.proc + 1)).held)))) (base.chan + 3) credit)
+    (untagged (untagged (pick_number (s.own (base.proc + 1)).number (s.own (base.proc + 1)).held)))) (base.chan + 3) credit)
     (base.proc + 1)
     (record {
       number = (s.own (base.proc + 1)).number + 1;
@@ -108,7 +108,7 @@ around_push base s t a y m x =
       emitted = x.emitted;
     }
 
-around_own : (base : Base) (s t : State) (p : ℕ) (o : Own) → (p ≡ base.proc) ⊎ (p ≡ base.proc + 1) → Around base s t →
+around_own : (base : Base) (s t : State) (p : ℕ) (o : LocalState) → (p ≡ base.proc) ⊎ (p ≡ base.proc + 1) → Around base s t →
     Around base s (set_own t p o)
 unfolding set_own
 around_own base s t p o m x =
@@ -202,7 +202,7 @@ body_falls fir f a x y g c h l = omega arith
 module _ (net : Net) (units : Units) (roles : ℕ → Role) (node tokens : ℕ) (base : Base) (Q : Part)
     (gi : base.input < base.chan) (go : base.output < base.chan) (gn : base.input ≢ base.output)
     (stands : AreStanding net base.proc (head_proc node base ∷ (tail_proc node base ∷ [])))
-    (fits : IsSeated net units roles (base.proc + 2) (base.chan + 4)
+    (fits : IsSlot net units roles (base.proc + 2) (base.chan + 4)
     (record { input = base.chan; output = base.chan + 1; part = 0 }) Q) where
   around_same : (s t : State) → Around base s t → IsSameInside Q s t
   around_same s t a = record {
@@ -262,7 +262,7 @@ module _ (net : Net) (units : Units) (roles : ℕ → Role) (node tokens : ℕ) 
       + ((Q.firings * ((ap (λ z. length (s.tokens z)) fits.input ∙ e2) i) + e3 i)
       + (e4 i + ((Q.firings + 1) * e5 i + e6 i)))
 
-  -- how long the loop's lists are after a step
+  -- the loop's lists after a step, and their lengths
   round_ring : (d p b : List Token) (y : Token) (f : List Token) →
       (d ++ (p ++ map (over Q.meaning) (b ++ y ∷ []))) ++ map (over Q.meaning) f
       ≡ (d ++ (p ++ map (over Q.meaning) b)) ++ map (over Q.meaning) (y ∷ f)
@@ -388,7 +388,7 @@ module _ (net : Net) (units : Units) (roles : ℕ → Role) (node tokens : ℕ) 
         ∙ push_own (pop (pop s base.input) (base.chan + 3)) base.chan _ (base.proc + 1)
         ∙ pop_own (pop s base.input) (base.chan + 3) (base.proc + 1) ∙ pop_own s base.input (base.proc + 1)
 
-    counted_count : (o : Own) → (counted o).number ≡ o.number + 1
+    counted_count : (o : LocalState) → (counted o).number ≡ o.number + 1
     counted_count o = refl
 
     first_turn : (n : ℕ) (x : Token) (f : List Token) →
@@ -588,7 +588,7 @@ module _ (net : Net) (units : Units) (roles : ℕ → Role) (node tokens : ℕ) 
 
     release_out : (release_state base s).tokens base.output
         ≡ s.tokens base.output
-        ++ peeled (peeled (pick_number (s.own (base.proc + 1)).number (s.own (base.proc + 1)).held)) ∷ []
+        ++ untagged (untagged (pick_number (s.own (base.proc + 1)).number (s.own (base.proc + 1)).held)) ∷ []
     unfolding release_state
     release_out =
         set_tokens (push (push s base.output _) (base.chan + 3) credit) (base.proc + 1) _ base.output
@@ -667,7 +667,7 @@ module _ (net : Net) (units : Units) (roles : ℕ → Role) (node tokens : ℕ) 
     unfolding let_in let_in_state
     head_in = refl
 
-    -- what Tail finds
+    -- Tail's verdict
     abbrev verdict : Turn
     verdict =
         turn_of (test_of units.tree units.leaf node) (spent_of units.tree node) (nat_lt (newest_tag (first_or credit (s.tokens (base.chan + 1)))) (turns_of units.tree node))
@@ -923,8 +923,8 @@ module _ (net : Net) (units : Units) (roles : ℕ → Role) (node tokens : ℕ) 
   bag_length : (v : View) → length (bag (laps_of units node Q) v) ≡ length v.held + length v.ring
   unfolding bag
   bag_length v =
-      length-append (map peeled v.held) _
-      ∙ ap₂ (λ x y. x + y) (length-map v.held peeled) (length-map v.ring (settled (laps_of units node Q)))
+      length-append (map untagged v.held) _
+      ∙ ap₂ (λ x y. x + y) (length-map v.held untagged) (length-map v.ring (settled (laps_of units node Q)))
 
   ring_length : (s : State) →
       length (line Q s ++ map (over Q.meaning) (s.tokens (base.chan + 2)))
@@ -1028,7 +1028,7 @@ module _ (net : Net) (units : Units) (roles : ℕ → Role) (node tokens : ℕ) 
     -- DRAIN
     module _ (s : State) (h : (loop_over units node tokens base Q).orderly s ≡ true)
         (quiet : (p : ℕ) → IsInside (loop_over units node tokens base Q) p → can_fire units.tree net s p ≡ false)
-        (calm : has_trap s.emitted ≡ false) (room : has_room net s base.output ≡ true)
+        (untrapped : has_trap s.emitted ≡ false) (room : has_room net s base.output ≡ true)
         (rooms : HaveRoom net base.chan 4) where
       body_orderly : Q.orderly s ≡ true
       body_orderly = (and_parts _ _ h).0
@@ -1049,7 +1049,7 @@ module _ (net : Net) (units : Units) (roles : ℕ → Role) (node tokens : ℕ) 
       tail_cannot : (releases s || (has_first (s.tokens (base.chan + 1)) && has_room net s (base.chan + 2))) ≡ false
       unfolding row_can can_release head.can tail.can
       tail_cannot =
-          cannot_at net units s (base.proc + 1) (tail_proc node base) tail_stands calm
+          cannot_at net units s (base.proc + 1) (tail_proc node base) tail_stands untrapped
           (quiet (base.proc + 1) (record { from = omega arith; to = omega (arith, fits.proc, fits.lawful.procs) }))
 
       head_cannot : (has_room net s base.chan
@@ -1057,7 +1057,7 @@ module _ (net : Net) (units : Units) (roles : ℕ → Role) (node tokens : ℕ) 
           || (has_first (s.tokens base.input) && has_first (s.tokens (base.chan + 3))))) ≡ false
       unfolding row_can head.can tail.can
       head_cannot =
-          cannot_at net units s base.proc (head_proc node base) head_stands calm
+          cannot_at net units s base.proc (head_proc node base) head_stands untrapped
           (quiet base.proc (record { from = le_refl _; to = omega (arith, fits.proc, fits.lawful.procs) }))
 
       room_at : (c n : ℕ) → (chan_at net c).cap ≡ n → length (s.tokens c) < n → has_room net s c ≡ true
@@ -1089,7 +1089,7 @@ module _ (net : Net) (units : Units) (roles : ℕ → Role) (node tokens : ℕ) 
       body_drained : IsDrained Q s
       body_drained =
           fits.lawful.drain s body_orderly
-          (λ p i. quiet p (record { from = omega (arith, i.from, fits.proc); to = i.to })) calm
+          (λ p i. quiet p (record { from = omega (arith, i.from, fits.proc); to = i.to })) untrapped
           (room_when_empty net s Q.output (ap s.tokens fits.output ∙ no_d)
           (subst (λ z. 0 < (chan_at net z).cap) (sym fits.output)
           (rooms.room (base.chan + 1) (omega arith) (omega arith))))
@@ -1112,10 +1112,10 @@ module _ (net : Net) (units : Units) (roles : ℕ → Role) (node tokens : ℕ) 
           ((ap s.tokens fits.output ∙ no_d) i
           ++ (body_drained.pending i ++ map (over Q.meaning) (body_drained.input i))) ++ map (over Q.meaning) (no_f i)
 
-      held_bag : bag (laps_of units node Q) (view_of base Q s) ≡ map peeled (s.own (base.proc + 1)).held
+      held_bag : bag (laps_of units node Q) (view_of base Q s) ≡ map untagged (s.own (base.proc + 1)).held
       unfolding bag
       held_bag =
-          ap (λ z. map peeled (s.own (base.proc + 1)).held ++ map (settled (laps_of units node Q)) z) no_ring
+          ap (λ z. map untagged (s.own (base.proc + 1)).held ++ map (settled (laps_of units node Q)) z) no_ring
           ∙ append-nil _
 
       no_bag : bag (laps_of units node Q) (view_of base Q s) ≡ []
@@ -1227,7 +1227,7 @@ module _ (net : Net) (units : Units) (roles : ℕ → Role) (node tokens : ℕ) 
           let a = and_parts _ _ h in
           (loop_step s t p i way a.0 (kept_to (laps_of units node Q) tokens (view_of base Q s) a.1)).right.work;
       size = loop_size;
-      drain = λ s h quiet calm room. loop_drained s h quiet calm room rooms;
+      drain = λ s h quiet untrapped room. loop_drained s h quiet untrapped room rooms;
     }
 
 module _ (net : Net) (units : Units) (roles : ℕ → Role) (node tokens : ℕ) (base : Base) where
@@ -1245,7 +1245,7 @@ module _ (net : Net) (units : Units) (roles : ℕ → Role) (node tokens : ℕ) 
   unfolding AreChained proc_end chan_end
   loop_lies [] placed = absurd placed.inner
   loop_lies (Q ∷ []) placed =
-      let f : IsSeated net units roles (base.proc + 2) (base.chan + 4)
+      let f : IsSlot net units roles (base.proc + 2) (base.chan + 4)
       (record { input = base.chan; output = base.chan + 1; part = 0 }) Q = placed.inner.0 in
       record {
         meaning =
@@ -1271,7 +1271,7 @@ loop_rooms tokens cap (suc (suc (suc zero))) t h l = t
 loop_rooms tokens cap (suc (suc (suc (suc k)))) t h l = absurd (omega arith)
 
 loop_ports : (base : Base) (v : ℕ) → v < 1 →
-    IsGoodSeat base 4 (get_or (record { input = base.chan; output = base.chan + 1; part = 0 } ∷ []) v no_seat)
+    IsGoodSlot base 4 (get_or (record { input = base.chan; output = base.chan + 1; part = 0 } ∷ []) v no_slot)
 loop_ports base zero l =
     record { input = omega arith; output = omega arith; apart = λ e. omega (arith, e); out = inr (omega arith) }
 loop_ports base (suc v) l = absurd (omega arith)
@@ -1283,5 +1283,5 @@ loop_lawful node tokens t = record {
   count = λ base. refl;
   laid = λ cap base. refl;
   rooms = λ cap base k h l. loop_rooms tokens cap k t h l;
-  seats = λ net base good v l. loop_ports base v l;
+  slots = λ net base good v l. loop_ports base v l;
 }

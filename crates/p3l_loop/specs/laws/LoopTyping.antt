@@ -118,7 +118,7 @@ loop_typed tree node tokens turns limit there form same part = record {
       tt,
     ),
   );
-  seats = λ w base t s. elim [
+  slots = λ w base t s. elim [
     | zero ↦ λ l. record {
       input = subst (λ z. Carries w base.chan z (t + 2)) (sym part.takes) (to_body tree node w base.chan t s.own);
       output = subst (λ z. Carries w (base.chan + 1) z (t + 2)) (sym part.gives) (from_body tree node w base.chan t s.own);

@@ -1,12 +1,12 @@
--- What the rows of Head and Tail do to what a loop shows: letting in, holding, sending round once more and releasing
+-- Effects of the rows of Head and Tail on the view of a loop: letting in, holding, sending round once more and releasing
 -- keep the list, the numbers, the turns and the credits (`let_in_goes` to `release_goes`), and the work falls.
--- What the ring makes of an item is what the language says of its turns (`rounds_turns`).
+-- The rounds of the ring give an item the outcome of the language's turns (`rounds_turns`).
 use Rattle.std.proofs.Common.{◌≡◌, ℕ, zero, suc, ◌+◌, ◌*◌, ◌-◌, ◌≤◌, ◌<◌, inl, inr, nat_eq, nat_lt, Bool, true, false, List, [], ◌∷◌, ◌++◌, map, length, refl, sym, ap, ap₂, ◌∙◌, subst, arith, append_assoc, eqb-true, eq-eqb, lt-ltb, ltb-true, le-ltb}
 use Rattle.std.proofs.lemmas.Bool.{cases_Bool, cases_lt, cond-true, cond-false, and_parts, and_from}
 use Rattle.std.proofs.lemmas.List.{map-append}
 use Rattle.p3l_base.specs.declared.outcome.Outcome.{Outcome}
 use Rattle.p3l_base.specs.declared.outcome.Outcome.TheVariants.{Value, Trapped}
-use Rattle.p3l_firing.specs.Token.{over, newest_tag, second_tag, peeled, admitted, once_more, first_tag, later_tags, next_tag}
+use Rattle.p3l_firing.specs.Token.{over, newest_tag, second_tag, untagged, admitted, once_more, first_tag, later_tags, next_tag}
 use Rattle.p3l_firing.specs.declared.token.Token.{Token}
 use Rattle.p3l_firing.specs.kinds.Tail.{Turn.Held, Turn.Again, turn_of, by_test, has_number, pick_number, drop_number}
 use Rattle.p3l_loop.specs.Loop.{Laps, ending, after, turns, rounds, settled, View, bag, in_turns, to_come, well_kept, ring_due}
@@ -97,7 +97,7 @@ unfolding later_tags next_tag
 next_later [] = refl
 next_later (t ∷ ts) = refl
 
--- what comes after the body where the value is held
+-- the outcome after the body is the value, if it is held
 pub after_held : (l : Laps) (t : ℕ) (o w : Outcome) → turn_of l.test l.spent (nat_lt t l.turns) o ≡ Held w →
     after l (l.turns - t) o ≡ w
 unfolding after ending
@@ -163,9 +163,9 @@ module _ (l : Laps) (tokens : ℕ) (v : View) (k : Kept l tokens v) where
   unfolding settled first_tag later_tags
   new_turn x = refl
 
-  new_peeled : (x : Token) → peeled (settled l (over l.body (admitted v.next x))) ≡ over (rounds l) x
+  new_untagged : (x : Token) → untagged (settled l (over l.body (admitted v.next x))) ≡ over (rounds l) x
   unfolding settled first_tag later_tags rounds
-  new_peeled x = refl
+  new_untagged x = refl
 
   new_first : (x : Token) → newest_tag (over l.body (admitted v.next x)) ≡ 1
   unfolding first_tag
@@ -177,20 +177,20 @@ module _ (l : Laps) (tokens : ℕ) (v : View) (k : Kept l tokens v) where
       record v { next = v.next + 1; credits = c; ring = a ++ over l.body (admitted v.next x) ∷ b; input = xs }
 
   module _ (a b : List Token) (ring : v.ring ≡ a ++ b) where
-    old_bag : bag l v ≡ (map peeled v.held ++ map (settled l) a) ++ map (settled l) b
+    old_bag : bag l v ≡ (map untagged v.held ++ map (settled l) a) ++ map (settled l) b
     unfolding bag
     old_bag =
-        ap (λ z. map peeled v.held ++ map (settled l) z) ring
-        ∙ ap (λ z. map peeled v.held ++ z) (map-append (settled l) a b)
-        ∙ sym (append_assoc (map peeled v.held) (map (settled l) a) (map (settled l) b))
+        ap (λ z. map untagged v.held ++ map (settled l) z) ring
+        ∙ ap (λ z. map untagged v.held ++ z) (map-append (settled l) a b)
+        ∙ sym (append_assoc (map untagged v.held) (map (settled l) a) (map (settled l) b))
 
     let_in_bag : (x : Token) (xs : List Token) (c : ℕ) →
         bag l (let_in_view a b x xs c)
-        ≡ (map peeled v.held ++ map (settled l) a) ++ settled l (over l.body (admitted v.next x)) ∷ map (settled l) b
+        ≡ (map untagged v.held ++ map (settled l) a) ++ settled l (over l.body (admitted v.next x)) ∷ map (settled l) b
     unfolding bag
     let_in_bag x xs c =
-        ap (λ z. map peeled v.held ++ z) (map-append (settled l) a (over l.body (admitted v.next x) ∷ b))
-        ∙ sym (append_assoc (map peeled v.held) (map (settled l) a) _)
+        ap (λ z. map untagged v.held ++ z) (map-append (settled l) a (over l.body (admitted v.next x) ∷ b))
+        ∙ sym (append_assoc (map untagged v.held) (map (settled l) a) _)
 
     turns_parts : (m : ℕ) (xs ys : List Token) → in_turns m (xs ++ ys) ≡ true → (in_turns m xs ≡ true) × (in_turns m ys ≡ true)
     unfolding in_turns
@@ -211,13 +211,13 @@ module _ (l : Laps) (tokens : ℕ) (v : View) (k : Kept l tokens v) where
     let_in_goes x xs c e f =
         let g = let_in_bag x xs c in
         let old = ap length old_bag in
-        let num : IsNumbered ((map peeled v.held ++ map (settled l) a) ++ map (settled l) b) v.least =
+        let num : IsNumbered ((map untagged v.held ++ map (settled l) a) ++ map (settled l) b) v.least =
         subst (λ z. IsNumbered z v.least) old_bag k.numbered in
         let n : newest_tag (settled l (over l.body (admitted v.next x)))
-        ≡ v.least + length ((map peeled v.held ++ map (settled l) a) ++ map (settled l) b) =
+        ≡ v.least + length ((map untagged v.held ++ map (settled l) a) ++ map (settled l) b) =
         new_turn x ∙ omega (arith, k.count, old) in
         let len = ap length g
-        ∙ without_count (map peeled v.held ++ map (settled l) a) (settled l (over l.body (admitted v.next x))) (map (settled l) b) in
+        ∙ without_count (map untagged v.held ++ map (settled l) a) (settled l (over l.body (admitted v.next x))) (map (settled l) b) in
         let t = turns_parts l.turns a b (ap (in_turns l.turns) (sym ring) ∙ k.turns) in
         record {
           kept = record {
@@ -227,13 +227,13 @@ module _ (l : Laps) (tokens : ℕ) (v : View) (k : Kept l tokens v) where
                 (turns_before l.turns _ b (turns_one l.turns _ (omega (arith, new_first x)) (omega (arith, new_first x))) t.1);
             spent = k.spent;
             numbered = subst (λ z. IsNumbered z v.least) (sym g)
-                (insert_numbered (map peeled v.held ++ map (settled l) a) _ (map (settled l) b) v.least num n);
+                (insert_numbered (map untagged v.held ++ map (settled l) a) _ (map (settled l) b) v.least num n);
           };
           line =
               ap (λ z. v.output ++ (read z v.least (length z) ++ map (over (rounds l)) xs)) g
               ∙ ap (λ z. v.output ++ (z ++ map (over (rounds l)) xs))
-              (insert_read (map peeled v.held ++ map (settled l) a) _ (map (settled l) b) v.least num n
-              ∙ ap₂ (λ y z. read y v.least (length y) ++ z ∷ []) (sym old_bag) (new_peeled x))
+              (insert_read (map untagged v.held ++ map (settled l) a) _ (map (settled l) b) v.least num n
+              ∙ ap₂ (λ y z. read y v.least (length y) ++ z ∷ []) (sym old_bag) (new_untagged x))
               ∙ ap (λ z. v.output ++ z) (append_assoc (read (bag l v) v.least (length (bag l v))) _ _)
               ∙ ap (λ z. v.output ++ (read (bag l v) v.least (length (bag l v)) ++ map (over (rounds l)) z)) (sym e);
         }
@@ -246,10 +246,10 @@ module _ (l : Laps) (tokens : ℕ) (v : View) (k : Kept l tokens v) where
       bag l (hold_view y ys w) ≡ bag l v
   unfolding bag settled
   hold_bag y ys w e h =
-      ap (λ z. z ++ map (settled l) ys) (map-append peeled v.held (record y { body = w } ∷ []))
-      ∙ append_assoc (map peeled v.held) _ _
-      ∙ ap (λ z. map peeled v.held ++ (record { tags = later_tags y.tags; body = z } ∷ map (settled l) ys)) (sym h)
-      ∙ ap (λ z. map peeled v.held ++ map (settled l) z) (sym e)
+      ap (λ z. z ++ map (settled l) ys) (map-append untagged v.held (record y { body = w } ∷ []))
+      ∙ append_assoc (map untagged v.held) _ _
+      ∙ ap (λ z. map untagged v.held ++ (record { tags = later_tags y.tags; body = z } ∷ map (settled l) ys)) (sym h)
+      ∙ ap (λ z. map untagged v.held ++ map (settled l) z) (sym e)
 
   pub hold_goes : (y : Token) (ys : List Token) (w : Outcome) → v.ring ≡ y ∷ ys →
       turn_of l.test l.spent (nat_lt (newest_tag y) l.turns) y.body ≡ Held w → Goes l tokens v (hold_view y ys w)
@@ -282,17 +282,17 @@ module _ (l : Laps) (tokens : ℕ) (v : View) (k : Kept l tokens v) where
       ∙ ap (λ z. record { tags = later_tags y.tags; body = z }) (sym h)
 
   again_bag : (y : Token) (ys : List Token) → settled l (over l.body (once_more y)) ≡ settled l y →
-      bag l (again_view y ys) ≡ (map peeled v.held ++ map (settled l) ys) ++ settled l y ∷ []
+      bag l (again_view y ys) ≡ (map untagged v.held ++ map (settled l) ys) ++ settled l y ∷ []
   unfolding bag
   again_bag y ys h =
-      ap (λ z. map peeled v.held ++ z) (map-append (settled l) ys _)
-      ∙ sym (append_assoc (map peeled v.held) (map (settled l) ys) _)
-      ∙ ap (λ z. (map peeled v.held ++ map (settled l) ys) ++ z ∷ []) h
+      ap (λ z. map untagged v.held ++ z) (map-append (settled l) ys _)
+      ∙ sym (append_assoc (map untagged v.held) (map (settled l) ys) _)
+      ∙ ap (λ z. (map untagged v.held ++ map (settled l) ys) ++ z ∷ []) h
 
   ring_bag : (y : Token) (ys : List Token) → v.ring ≡ y ∷ ys →
-      bag l v ≡ map peeled v.held ++ settled l y ∷ map (settled l) ys
+      bag l v ≡ map untagged v.held ++ settled l y ∷ map (settled l) ys
   unfolding bag
-  ring_bag y ys e = ap (λ z. map peeled v.held ++ map (settled l) z) e
+  ring_bag y ys e = ap (λ z. map untagged v.held ++ map (settled l) z) e
 
   pub again_goes : (y : Token) (ys : List Token) → v.ring ≡ y ∷ ys →
       turn_of l.test l.spent (nat_lt (newest_tag y) l.turns) y.body ≡ Again → Goes l tokens v (again_view y ys)
@@ -304,7 +304,7 @@ module _ (l : Laps) (tokens : ℕ) (v : View) (k : Kept l tokens v) where
       let c = ring_bag y ys e in
       let n = subst (λ z. IsNumbered z v.least) c k.numbered in
       let m : length (bag l (again_view y ys)) ≡ length (bag l v) =
-      ap length b ∙ moved_count (map peeled v.held) (settled l y) (map (settled l) ys) ∙ ap length (sym c) in
+      ap length b ∙ moved_count (map untagged v.held) (settled l y) (map (settled l) ys) ∙ ap length (sym c) in
       record {
         kept = record {
           count = omega (arith, m, k.count);
@@ -314,12 +314,12 @@ module _ (l : Laps) (tokens : ℕ) (v : View) (k : Kept l tokens v) where
           spent = k.spent;
           numbered =
               subst (λ z. IsNumbered z v.least) (sym b)
-              (moved_numbered (map peeled v.held) (settled l y) (map (settled l) ys) v.least n);
+              (moved_numbered (map untagged v.held) (settled l y) (map (settled l) ys) v.least n);
         };
         line =
             ap (λ z. v.output ++ (read z v.least (length z) ++ map (over (rounds l)) v.input)) b
             ∙ ap (λ z. v.output ++ (z ++ map (over (rounds l)) v.input))
-            (moved_read (map peeled v.held) (settled l y) (map (settled l) ys) v.least n)
+            (moved_read (map untagged v.held) (settled l y) (map (settled l) ys) v.least n)
             ∙ ap (λ z. v.output ++ (read z v.least (length z) ++ map (over (rounds l)) v.input)) (sym c);
       }
 
@@ -329,31 +329,31 @@ module _ (l : Laps) (tokens : ℕ) (v : View) (k : Kept l tokens v) where
     least = v.least + 1;
     credits = v.credits + 1;
     held = drop_number v.least v.held;
-    output = v.output ++ peeled (peeled (pick_number v.least v.held)) ∷ [];
+    output = v.output ++ untagged (untagged (pick_number v.least v.held)) ∷ [];
   }
 
   module _ (f : Found v.least v.held) where
     bag_before : bag l v
-        ≡ map peeled f.before ++ peeled (pick_number v.least v.held) ∷ (map peeled f.after ++ map (settled l) v.ring)
+        ≡ map untagged f.before ++ untagged (pick_number v.least v.held) ∷ (map untagged f.after ++ map (settled l) v.ring)
     unfolding bag
     bag_before =
-        ap (λ z. map peeled z ++ map (settled l) v.ring) f.whole
-        ∙ ap (λ z. z ++ map (settled l) v.ring) (map-append peeled f.before _)
-        ∙ append_assoc (map peeled f.before) _ _
+        ap (λ z. map untagged z ++ map (settled l) v.ring) f.whole
+        ∙ ap (λ z. z ++ map (settled l) v.ring) (map-append untagged f.before _)
+        ∙ append_assoc (map untagged f.before) _ _
 
-    bag_after : bag l release_view ≡ map peeled f.before ++ (map peeled f.after ++ map (settled l) v.ring)
+    bag_after : bag l release_view ≡ map untagged f.before ++ (map untagged f.after ++ map (settled l) v.ring)
     unfolding bag
     bag_after =
-        ap (λ z. map peeled z ++ map (settled l) v.ring) f.others
-        ∙ ap (λ z. z ++ map (settled l) v.ring) (map-append peeled f.before f.after)
-        ∙ append_assoc (map peeled f.before) _ _
+        ap (λ z. map untagged z ++ map (settled l) v.ring) f.others
+        ∙ ap (λ z. z ++ map (settled l) v.ring) (map-append untagged f.before f.after)
+        ∙ append_assoc (map untagged f.before) _ _
 
     found_goes : Goes l tokens v release_view
     unfolding view_line to_come
     found_goes =
         let n = subst (λ z. IsNumbered z v.least) bag_before k.numbered in
         let len : length (bag l v) ≡ suc (length (bag l release_view)) =
-        ap length bag_before ∙ without_count (map peeled f.before) _ _ ∙ ap (λ z. suc (length z)) (sym bag_after) in
+        ap length bag_before ∙ without_count (map untagged f.before) _ _ ∙ ap (λ z. suc (length z)) (sym bag_after) in
         let up : v.least + 1 ≡ suc v.least = omega arith in
         record {
           kept = record {
@@ -364,15 +364,15 @@ module _ (l : Laps) (tokens : ℕ) (v : View) (k : Kept l tokens v) where
             numbered =
                 subst (λ z. IsNumbered (bag l release_view) z) (sym up)
                 (subst (λ z. IsNumbered z (suc v.least)) (sym bag_after)
-                (release_numbered (map peeled f.before) _ _ v.least n f.right));
+                (release_numbered (map untagged f.before) _ _ v.least n f.right));
           };
           line =
-              ap₂ (λ y z. (v.output ++ peeled (peeled (pick_number v.least v.held)) ∷ [])
+              ap₂ (λ y z. (v.output ++ untagged (untagged (pick_number v.least v.held)) ∷ [])
               ++ (read y z (length y) ++ map (over (rounds l)) v.input)) bag_after up
               ∙ append_assoc v.output _ _
               ∙ ap (λ z. v.output ++ (z ++ map (over (rounds l)) v.input))
-              (sym (release_read (map peeled f.before) (peeled (pick_number v.least v.held))
-              (map peeled f.after ++ map (settled l) v.ring) v.least n f.right))
+              (sym (release_read (map untagged f.before) (untagged (pick_number v.least v.held))
+              (map untagged f.after ++ map (settled l) v.ring) v.least n f.right))
               ∙ ap (λ z. v.output ++ (read z v.least (length z) ++ map (over (rounds l)) v.input)) (sym bag_before);
         }
 

@@ -12,10 +12,10 @@ use Rattle.p3l_map.specs.MapShape.{pieces_of, lines_of, view_of, map_part, map_s
 use Rattle.p3l_map.specs.Places.{read_by, all_empty, in_by, total, groups, left}
 use Rattle.p3l_map.specs.laws.Near.{near-come, near-kept}
 use Rattle.p3l_template.specs.Part.{Part, all_orderly}
-use Rattle.p3l_template.specs.Shape.{Base, Role, fan_seats}
+use Rattle.p3l_template.specs.Shape.{Base, Role, fan_slots}
 use Rattle.p3l_template.specs.Units.{Units}
 use Rattle.p3l_template.specs.Lines.{lines_by}
-use Rattle.p3l_template.specs.Finding.{bare, bares, pending_of, AreSeated, IsFoundShape}
+use Rattle.p3l_template.specs.Finding.{bare, bares, pending_of, AreSlots, IsFoundShape}
 use Rattle.p3l_map.specs.MapKind.{bare_pieces, line_at, found_by, map_finds}
 use Rattle.p3l_template.specs.laws.BareLaw.{bares-bares, bares-length, bares-line, and-swap}
 
@@ -173,7 +173,7 @@ module _ (q : Pieces) where
     unfolding to_come
     come-bare = ap (map (joined (plain_map q))) groups-whole ∙ joined-bare (groups q.number [] (whole q v))
 
--- what is found by tokens with outcomes is found without them
+-- tokens joined from bare pieces are bare
 bares-joined : (number n : ℕ) (gs : List (List Token)) → bares (map (joined (bare_pieces number n)) gs) ≡ map (joined (bare_pieces number n)) gs
 unfolding joined
 bares-joined number n [] = refl
@@ -196,24 +196,24 @@ found-bare number n L held sending sent =
     ∙ seen-found number n (record { lines = L; held = bares held; sending = bares sending; sent = sent; input = []; output = [] })
 
 -- the lines that are seen
-line-bare : (s : State) (n w i o : ℕ) (parts : List Part) → AreSeated (fan_seats i o n) parts → w < n →
-    line_at (lines_by s (fan_seats i o n) (map (pending_of s) parts)) w ≡ bares (lines_of parts s w)
-unfolding lines_by AreSeated fan_seats
-line-bare s zero w i o parts seated l = absurd (omega (arith, l))
-line-bare s (suc n) w i o [] seated l = absurd seated
-line-bare s (suc n) zero i o (P ∷ Ps) seated l = sym (bares-line s P i o seated.0.0 seated.0.1)
-line-bare s (suc n) (suc w) i o (P ∷ Ps) seated l = line-bare s n w (suc i) (suc o) Ps seated.1 (omega (arith, l))
+line-bare : (s : State) (n w i o : ℕ) (parts : List Part) → AreSlots (fan_slots i o n) parts → w < n →
+    line_at (lines_by s (fan_slots i o n) (map (pending_of s) parts)) w ≡ bares (lines_of parts s w)
+unfolding lines_by AreSlots fan_slots
+line-bare s zero w i o parts slotted l = absurd (omega (arith, l))
+line-bare s (suc n) w i o [] slotted l = absurd slotted
+line-bare s (suc n) zero i o (P ∷ Ps) slotted l = sym (bares-line s P i o slotted.0.0 slotted.0.1)
+line-bare s (suc n) (suc w) i o (P ∷ Ps) slotted l = line-bare s n w (suc i) (suc o) Ps slotted.1 (omega (arith, l))
 
 module _ (node n : ℕ) (units : Units) (roles : ℕ → Role) (base : Base) (parts : List Part) (s : State)
-    (seated : AreSeated (fan_seats base.chan (base.chan + n) n) parts) where
+    (slotted : AreSlots (fan_slots base.chan (base.chan + n) n) parts) where
   abbrev Q : Pieces
   Q = pieces_of units node n (roles 0).meaning
 
   abbrev lines : ℕ → List Token
-  lines = line_at (lines_by s (fan_seats base.chan (base.chan + n) n) (map (pending_of s) parts))
+  lines = line_at (lines_by s (fan_slots base.chan (base.chan + n) n) (map (pending_of s) parts))
 
   same-lines : (w : ℕ) → w < n → lines w ≡ bares (lines_of parts s w)
-  same-lines w l = line-bare s n w base.chan (base.chan + n) parts seated l
+  same-lines w l = line-bare s n w base.chan (base.chan + n) parts slotted l
 
   map-orderly : (map_part units node n roles base parts).orderly s
       ≡ (all_orderly parts s && (map_finds node n units.tree base s (map (pending_of s) parts)).orderly)
@@ -232,6 +232,6 @@ pub map_found : (node n : ℕ) → IsFoundShape (map_shape node n) (map_finds no
 map_found node n = record {
   orderly = map-orderly node n;
   pending = map-pending node n;
-  ends = λ units roles base parts seated. record { input = refl; output = refl; proc_to = refl; chan_to = refl };
+  ends = λ units roles base parts slotted. record { input = refl; output = refl; proc_to = refl; chan_to = refl };
   laid = λ cap base. length-replicate (n + n) _;
 }

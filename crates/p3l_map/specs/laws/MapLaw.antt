@@ -11,7 +11,7 @@ use Rattle.p3l_firing.proofs.WaysLaw.{strict_scatter, strict_gather}
 use Rattle.p3l_firing.specs.Lists.{rest_of, first_or, has_first}
 use Rattle.p3l_firing.specs.Process.{in_of, out_of}
 use Rattle.p3l_firing.specs.At.{at}
-use Rattle.p3l_firing.specs.State.{Own, State, pop, push, set_own, counted, fresh, has_room}
+use Rattle.p3l_firing.specs.State.{LocalState, State, pop, push, set_own, counted, fresh, has_room}
 use Rattle.p3l_firing.specs.Token.{over, bodies, has_trap, credit}
 use Rattle.p3l_firing.specs.declared.net.Net.{Net}
 use Rattle.p3l_firing.specs.declared.process.ProcKind.TheVariants.{Scatter, Gather}
@@ -87,8 +87,8 @@ module _ (net : Net) (units : Units) (roles : ℕ → Role) (node n : ℕ) (pos 
   abbrev Q : Pieces
   Q = pieces_of units node n (roles 0).meaning
 
-  -- what Scatter keeps after piece k
-  unfoldable after_piece : Own → Own
+  -- Scatter's own state after piece k
+  unfoldable after_piece : LocalState → LocalState
   after_piece o = cond (nat_lt o.number (last_element units.tree node)) (counted o) fresh
 
   unfoldable take_state : State → State
@@ -494,12 +494,12 @@ module _ (net : Net) (units : Units) (roles : ℕ → Role) (node n : ℕ) (pos 
         (lines_of Ps (send_state s)) send_lines (view_of base Ps s)
         (send_goes Q (omega arith) pos (view_of base Ps s) k (first_or credit (s.own base.proc).held) sd m t one))
 
-    more_piece : (o : Own) → nat_lt o.number (last_element units.tree node) ≡ true →
+    more_piece : (o : LocalState) → nat_lt o.number (last_element units.tree node) ≡ true →
         (after_piece o ≡ record { number = o.number + 1; held = o.held })
     unfolding after_piece
     more_piece o h = cond-true _ _ _ h
 
-    last_piece : (o : Own) → nat_lt o.number (last_element units.tree node) ≡ false → (after_piece o ≡ fresh)
+    last_piece : (o : LocalState) → nat_lt o.number (last_element units.tree node) ≡ false → (after_piece o ≡ fresh)
     unfolding after_piece
     last_piece o h = cond-false _ _ _ h
 
@@ -710,7 +710,7 @@ module _ (net : Net) (units : Units) (roles : ℕ → Role) (node n : ℕ) (pos 
         ∙ ap (λ z. length v.output + z)
         (length-append (to_come q v) _ ∙ ap (λ z. length (to_come q v) + z) (length-map v.input (over (mapped q))))
 
-    -- what is to come, by what left and what entered
+    -- the number of tokens to come, by those that left and entered
     come_from : (t : State) → Goes Q (view_of base Ps s) (view_of base Ps t) →
         length (t.tokens base.output)
         + (length (to_come (pieces_of units node n (roles 0).meaning) (view_of base Ps t))
@@ -826,7 +826,7 @@ module _ (net : Net) (units : Units) (roles : ℕ → Role) (node n : ℕ) (pos 
         ap (λ z. length z.held * ((suc (last_element units.tree node) - z.number) * ((roles 0).firings + 2))) collect_scatter in
         omega (arith, g, x, y, z, o, i, c, a)
 
-    -- what Scatter owes falls by a piece
+    -- Scatter owes less after a piece
     scatter_falls : Kept Q (view_of base Ps s) → has_first (s.own base.proc).held ≡ true →
         length ((send_state s).own base.proc).held
         * ((suc (last_element units.tree node) - ((send_state s).own base.proc).number) * ((roles 0).firings + 2))
@@ -956,7 +956,7 @@ module _ (net : Net) (units : Units) (roles : ℕ → Role) (node n : ℕ) (pos 
     -- DRAIN
     module _ (h : (map_part units node n roles base Ps).orderly s ≡ true)
         (quiet : (p : ℕ) → IsInside (map_part units node n roles base Ps) p → can_fire units.tree net s p ≡ false)
-        (calm : has_trap s.emitted ≡ false) (room : has_room net s base.output ≡ true) where
+        (untrapped : has_trap s.emitted ≡ false) (room : has_room net s base.output ≡ true) where
       kept : Kept Q (view_of base Ps s)
       kept = kept_to Q (view_of base Ps s) (and_parts _ _ h).0
 
@@ -966,7 +966,7 @@ module _ (net : Net) (units : Units) (roles : ℕ → Role) (node n : ℕ) (pos 
       gather_cannot =
           ap (λ c. cond (nat_lt (last_element units.tree node) (length (s.own (base.proc + 1)).held)) (has_room net s base.output)
           (has_first (s.tokens c))) (sym (gather_chan (length (s.own (base.proc + 1)).held)))
-          ∙ cannot_at net units s (base.proc + 1) (gather_proc node n base) gather_stands calm
+          ∙ cannot_at net units s (base.proc + 1) (gather_proc node n base) gather_stands untrapped
           (quiet (base.proc + 1) (record { from = omega arith; to = omega (arith, fan.all.procs) }))
 
       scatter_cannot : cond (has_first (s.own base.proc).held)
@@ -975,7 +975,7 @@ module _ (net : Net) (units : Units) (roles : ℕ → Role) (node n : ℕ) (pos 
       scatter_cannot =
           ap (λ c. cond (has_first (s.own base.proc).held) (has_room net s c) (has_first (s.tokens base.input)))
           (sym (scatter_chan (s.own base.proc).number))
-          ∙ cannot_at net units s base.proc (scatter_proc node n base) scatter_stands calm
+          ∙ cannot_at net units s base.proc (scatter_proc node n base) scatter_stands untrapped
           (quiet base.proc (record { from = le_refl _; to = omega (arith, fan.all.procs) }))
 
       not_full : nat_lt (last_element units.tree node) (length (s.own (base.proc + 1)).held) ≡ false
@@ -991,7 +991,7 @@ module _ (net : Net) (units : Units) (roles : ℕ → Role) (node n : ℕ) (pos 
       worker_drained : (w : ℕ) → w < n → s.tokens (base.chan + n + w) ≡ [] → IsDrained (get_or Ps w no_part) s
       worker_drained =
           fan_drained net units roles n base Ps fan (map_fanned node n) s placed.chans
-          (and_parts _ _ h).1 quiet calm
+          (and_parts _ _ h).1 quiet untrapped
 
       line_dry : (w : ℕ) → w < n → s.tokens (base.chan + n + w) ≡ [] → lines_of Ps s w ≡ []
       unfolding line
@@ -1003,7 +1003,7 @@ module _ (net : Net) (units : Units) (roles : ℕ → Role) (node n : ℕ) (pos 
       no_front : s.tokens (base.chan + n + length (s.own (base.proc + 1)).held % n) ≡ []
       no_front = emptied _ (sym (cond-false _ _ _ not_full) ∙ gather_cannot)
 
-      -- where the line whose turn it is is dry, there is no piece under way
+      -- no piece is under way if the line whose turn it is is dry
       none_due : (L : ℕ → List Token) (f : ℕ → ℕ) (c m : ℕ) → in_by L f n c m ≡ true → L (f c) ≡ [] → m ≡ 0
       unfolding in_by
       none_due L f c zero i e = refl
@@ -1208,7 +1208,7 @@ module _ (net : Net) (units : Units) (roles : ℕ → Role) (node n : ℕ) (pos 
     step = map_step;
     work = map_work;
     size = map_size;
-    drain = λ s h quiet calm room. map_drained s h quiet calm room;
+    drain = λ s h quiet untrapped room. map_drained s h quiet untrapped room;
   }
 
 pub map_lawful : (node n : ℕ) → 0 < n → IsLawfulShape (map_shape node n)

@@ -1,6 +1,6 @@
--- What the rows of Scatter and Gather do to the values of a map: taking a token, collecting a piece, emitting a
+-- Effects of the rows of Scatter and Gather on the view of a map: taking a token, collecting a piece, emitting a
 -- group and sending a piece keep the list and the turns (`take_goes`, `collect_goes`, `emit_goes`, `send_goes`).
--- The list is what is in the out channel, the groups of all pieces joined, and the meanings of what waits.
+-- The list consists of the out channel, the groups of all pieces joined, and the meanings of the waiting tokens.
 use Rattle.std.proofs.Common.{◌≡◌, ℕ, zero, suc, ◌+◌, ◌-◌, ◌%◌, ◌≤◌, ◌<◌, true, List, [], ◌∷◌, ◌++◌, map, length, refl, sym, ap, ap₂, ◌∙◌, subst, arith, append_assoc, append-nil, length-append, eqb-true, eq-eqb, lt-ltb, le-leb, leb-true, mod-lt}
 use Rattle.std.proofs.Math.Nat.{suc-mod, mod_self, add-mod_left, mod-eq_of_lt}
 use Rattle.std.proofs.lemmas.Bool.{and_parts, and_from}
@@ -281,7 +281,7 @@ module _ (q : Pieces) (pos : 0 < q.number) (wide : 0 < q.lines) (v : View) (k : 
         sent = n;
       }
 
-  -- what Scatter keeps after piece k
+  -- Scatter's held token and number after piece k
   pub data Next (x : Token) : List Token → ℕ → Type 0 where
     More : suc v.sent < q.number → Next x (x ∷ []) (suc v.sent)
     Done : q.number ≤ suc v.sent → Next x [] 0

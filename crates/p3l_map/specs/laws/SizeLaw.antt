@@ -1,6 +1,6 @@
--- How many tokens a map holds, and how many groups and firings these stand for. The outcomes to come are at most the
+-- Numbers of tokens in a map, and of the groups and firings that these stand for. The outcomes to come are at most the
 -- tokens with Scatter and Gather and on the lines (`come_bound`), since each stands for a group or for one token.
--- `all_bound` adds up what the lines, Scatter and Gather still need.
+-- `all_bound` adds up the firings that the lines, Scatter and Gather still need.
 use Rattle.std.proofs.Common.{◌≡◌, ℕ, zero, suc, ◌+◌, ◌-◌, ◌*◌, ◌≤◌, inl, inr, nat_eq, List, [], ◌∷◌, ◌++◌, length, refl, ap, ◌∙◌, arith, length-append, eqb-true}
 use Rattle.std.proofs.lemmas.Bool.{cases_Bool, cases_lt, cond-true, cond-false}
 use Rattle.std.proofs.lemmas.List.{length-map}
@@ -65,7 +65,7 @@ few n g x y h =
       | inr l ↦ l
     ]
 
--- what is to come is at most what Gather and Scatter hold and what is under way
+-- the number of tokens to come is at most that held by Gather and Scatter and under way
 pub come_bound : (q : Pieces) (n : ℕ) (v : View) → q.number ≡ suc n → Kept q v →
     length (to_come q v) ≤ (length v.sending + length v.held) + under_way q v
 unfolding to_come whole

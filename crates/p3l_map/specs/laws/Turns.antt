@@ -129,7 +129,7 @@ turns_more spot n p (suc m) c e L x q h =
       and_from _ _ b.0 (ap (λ F. in_by F spot n (suc c) (suc m)) s ∙ r.1),
     )
 
--- where the same lines come in turn, the same is read
+-- the same tokens are read if the same lines come in turn
 pub read_moved : (spot : ℕ → ℕ) (n m c d : ℕ) (L : ℕ → List Token) → ((k : ℕ) → spot (d + k) ≡ spot (c + k)) →
     (read_by L spot d m ≡ read_by L spot c m) × (in_by L spot n d m ≡ in_by L spot n c m)
 unfolding read_by in_by
@@ -143,7 +143,7 @@ read_moved spot n (suc m) c d L h =
           ∙ ap (λ z. has_first (L (spot c)) && z) r.1,
     )
 
--- how many there are where one line changed
+-- the number of tokens where one line changed
 pub total_same : (L M : ℕ → List Token) (n : ℕ) → ((w : ℕ) → w < n → M w ≡ L w) → total M n ≡ total L n
 unfolding total
 total_same L M zero h = refl

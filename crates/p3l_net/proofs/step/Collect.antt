@@ -1,4 +1,4 @@
--- What a collect that may fire has, and the steps of its firing.
+-- Collects that may fire, and the steps of their firing.
 use Rattle.std.proofs.Common.{◌≡◌, ℕ, ◌+◌, ◌<◌, ◌≤◌, ◌&&◌, true, false, List, [], ◌∷◌, length, drop, Some, None, slice_get, get_or, cond, nat_eq, refl, sym, ap, ◌∙◌, subst, arith, suc, length-drop}
 use Rattle.std.specs.Option.{is_some}
 use Rattle.std.proofs.lemmas.Bool.{and_parts, cond-true, cond-false}
@@ -8,7 +8,7 @@ use Rattle.p3l_firing.specs.declared.process.Proc.{Proc}
 use Rattle.p3l_firing.specs.declared.process.ProcKind.TheVariants.{Collect}
 use Rattle.p3l_firing.specs.declared.token.Token.{Token}
 use Rattle.p3l_firing.specs.Lists.{has_first, first_or}
-use Rattle.p3l_firing.specs.Token.{credit, peeled, newest_tag}
+use Rattle.p3l_firing.specs.Token.{credit, untagged, newest_tag}
 use Rattle.p3l_firing.specs.Nodes.{Leaf}
 use Rattle.p3l_firing.specs.State.{State, own_at, counted, pop, push, set_own}
 use Rattle.p3l_firing.specs.Process.{out_of}
@@ -24,7 +24,7 @@ use Rattle.p3l_net.specs.Steps.{CanTake, CanPut, Done, MayFire, ready_at, room_a
 use Rattle.p3l_net.proofs.StepLaw.{Step, Step.Take, Step.Put, Step.Keep, seen_after, state_after, done_as}
 use Rattle.p3l_net.proofs.Standing.{here, is_kind, fits_as, writes_there, own_there, own_less, ready_as, can_take, can_put, room-seen}
 
--- whether the first token is the one that is expected
+-- the first token is the expected one if its newest tag is that number
 pub due_front : (n : ℕ) (tokens : List Token) → has_first tokens ≡ true → front_is n tokens ≡ nat_eq (newest_tag (first_or credit tokens)) n
 unfolding front_is
 due_front n [] h = cc
@@ -100,7 +100,7 @@ module _ {m : Seen} {p : ℕ} {q : Proc} (may : MayFire m p Collect) (stands : s
     takes = can_take h c (due_among (state_of m []) (own_at m.owns p).number q.ins c chosen) (due_full (state_of m []) (own_at m.owns p).number q.ins c chosen)
 
     abbrev pub steps : List Step
-    steps = Take c ∷ (Put (out_of q 0) (peeled (first_or credit (tokens_at m.queues c))) ∷ (Keep (counted (own_at m.owns p)) ∷ []))
+    steps = Take c ∷ (Put (out_of q 0) (untagged (first_or credit (tokens_at m.queues c))) ∷ (Keep (counted (own_at m.owns p)) ∷ []))
 
     row_is : (leaf : Leaf) (es : List Outcome) → row_fire Collect m.tree leaf m.net (state_of m es) p (own_at m.owns p) q ≡ taken_from (Some c) (state_of m es) p (own_at m.owns p) q
     unfolding row_fire row.fire
@@ -114,6 +114,6 @@ module _ {m : Seen} {p : ℕ} {q : Proc} (may : MayFire m p Collect) (stands : s
     fired leaf n is touched named =
         done_as h steps (due_among (state_of m []) (own_at m.owns p).number q.ins c chosen, (tt, (first_in q.outs (fits_collect h kind).outs, (tt, tt)))) (takes.there, (puts.there, ((own_there h, own_less h), tt))) leaf Collect kind (λ es. sent_is es ∙ sym (row_is leaf es)) n is touched named
 
--- what it keeps is there
+-- its local state is there
 pub own_inside : {m : Seen} {p : ℕ} (may : MayFire m p Collect) → p < length m.owns
 own_inside {p = p} may = subst (λ n. p < n) (sym may.sound.shaped.keeps) may.there

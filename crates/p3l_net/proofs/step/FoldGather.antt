@@ -1,4 +1,4 @@
--- What a fold-gather that may fire has, and the steps of its firing.
+-- Fold-gathers that may fire, and the steps of their firing.
 use Rattle.std.proofs.Common.{◌≡◌, ℕ, ℤ, ◌+◌, ◌*◌, ◌<◌, true, false, cond, List, [], ◌∷◌, length, Some, None, slice_get, sym, ap, ◌∙◌, subst, arith, leb-true, leb-false}
 use Rattle.std.specs.List.{AllByRecursion}
 use Rattle.std.proofs.lemmas.Bool.{cond-true, cond-false}
@@ -28,7 +28,7 @@ use Rattle.p3l_net.specs.Steps.{CanTake, CanPut, Done, MayFire, ready_at, room_a
 use Rattle.p3l_net.proofs.StepLaw.{Step, Step.Take, Step.Put, Step.Keep, seen_after, state_after, done_as}
 use Rattle.p3l_net.proofs.Standing.{here, is_kind, fits_as, keeps_as, reads_there, writes_there, own_there, own_less, ready_as, can_take, can_put, room-seen}
 
--- what is held is of the widths that are said
+-- the tokens held are of these widths
 all_bodies : (w t n : ℕ) → w ≡ n → (tokens : List Token) → AllByRecursion (HasWidth w t) tokens → AllByRecursion (λ (token : Token). HasLength n token.body) tokens
 all_bodies w t n same [] all = tt
 all_bodies w t n same (token ∷ tokens) all = (subst (λ k. HasLength k token.body) same all.0.words, all_bodies w t n same tokens all.1)
@@ -66,7 +66,7 @@ module _ {m : Seen} {p : ℕ} {q : Proc} (h : Stands m p q) (kind : q.kind ≡ F
             (operates m.tree leaf h.sound.typed.lawful gives q.node fits_fold_gather.node fits_fold_gather.form);
       }
 
-  -- what it holds are outcomes of its segments
+  -- it holds outcomes of its segments
   pub held_sized : AllByRecursion (λ (token : Token). HasLength (outs_of m.tree (part_at m.tree q.node 0)) token.body) (own_at m.owns p).held
   held_sized =
       all_bodies (node_at m.tree q.node).outs (h.sound.typed.widths.tags (out_of q 0)) (outs_of m.tree (part_at m.tree q.node 0)) same_outs
@@ -79,7 +79,7 @@ module _ {m : Seen} {p : ℕ} {q : Proc} (h : Stands m p q) (kind : q.kind ≡ F
       let several = fits_fold_gather.several in
       omega (arith, all, several)
 
-  -- where it is not full it reads the next line
+  -- it reads the next line if it is not full
   module _ (none : is_full (own_at m.owns p) q ≡ false) where
     pub held_few : length (own_at m.owns p).held < length q.ins
     unfolding is_full

@@ -1,4 +1,4 @@
--- What a gather that may fire has, and the steps of its firing.
+-- Gathers that may fire, and the steps of their firing.
 use Rattle.std.proofs.Common.{◌≡◌, ℕ, ◌<◌, true, false, cond, List, [], ◌∷◌, length, Some, None, slice_get, sym, ap, ◌∙◌, subst, arith}
 use Rattle.std.specs.List.{AllByRecursion}
 use Rattle.std.proofs.lemmas.Bool.{cond-true, cond-false, ltb-true}
@@ -30,7 +30,7 @@ use Rattle.p3l_net.proofs.StepLaw.{Step, Step.Take, Step.Put, Step.Keep, seen_af
 use Rattle.p3l_net.proofs.Standing.{here, is_kind, fits_as, keeps_as, reads_there, writes_there, own_there, own_less, ready_as, can_take, can_put, room-seen}
 use Rattle.p3l_net.proofs.step.Scatter.{some_product}
 
--- what is held is of the widths that are said
+-- the tokens held are of these widths
 all_bodies : (w t n : ℕ) → w ≡ n → (tokens : List Token) → AllByRecursion (HasWidth w t) tokens → AllByRecursion (λ (token : Token). HasLength n token.body) tokens
 all_bodies w t n same [] all = tt
 all_bodies w t n same (token ∷ tokens) all = (subst (λ k. HasLength k token.body) same all.0.words, all_bodies w t n same tokens all.1)
@@ -63,7 +63,7 @@ module _ {m : Seen} {p : ℕ} {q : Proc} (h : Stands m p q) (kind : q.kind ≡ G
       let fits = fits_gather in
       subst (λ (f : Form). HasLawfulOuts (cut_of f)) (sym fits.form) (map_part m.tree h.sound.typed.lawful q.node fits.node fits.form).cuts.lawful_outs
 
-  -- what it holds are results of its elements
+  -- it holds results of its elements
   pub held_sized : AllByRecursion (λ (token : Token). HasLength (element_size (cut_of (node_at m.tree q.node).form).outs) token.body) (own_at m.owns p).held
   held_sized =
       let fits = fits_gather in
@@ -72,7 +72,7 @@ module _ {m : Seen} {p : ℕ} {q : Proc} (h : Stands m p q) (kind : q.kind ≡ G
       (sym (ap (λ (f : Form). element_size (cut_of f).outs) fits.form ∙ cuts.part_outs_fit))
       (own_at m.owns p).held (keeps_as h Gather kind).held
 
-  -- where it is full it holds the results of all elements
+  -- it holds the results of all elements if it is full
   module _ (full : is_full m.tree (own_at m.owns p) q ≡ true) where
     pub held_all : length (own_at m.owns p).held ≡ element_count (cut_of (node_at m.tree q.node).form)
     unfolding is_full last_element

@@ -1,4 +1,4 @@
--- What a join that may fire has, and the steps of its firing.
+-- Joins that may fire, and the steps of their firing.
 use Rattle.std.proofs.Common.{◌≡◌, ◌≢◌, ℕ, ◌+◌, ◌<◌, ◌&&◌, true, List, [], ◌∷◌, length, Some, None, slice_get, slice_index, refl, sym, ap, ◌∙◌, subst, inl, arith}
 use Rattle.std.proofs.lemmas.Bool.{and_parts}
 use Rattle.p3l_base.specs.declared.outcome.Outcome.{Outcome}
@@ -110,7 +110,7 @@ module _ {m : Seen} {p : ℕ} {q : Proc} (may : MayFire m p Join) (stands : slic
       by_values (Value v) (Trapped trap) left right = tt
       by_values (Trapped trap) y left right = tt
 
-  -- what it appends
+  -- the token that it appends
   abbrev pub joined : Leaf → Token
   joined leaf = paired_by (operator_of m.tree leaf q.node) (first_or credit (tokens_at m.queues (in_of q 0))) (first_or credit (tokens_at m.queues (in_of q 1)))
 

@@ -1,4 +1,4 @@
--- What a run that may fire has, and the steps of its firing.
+-- Runs that may fire, and the steps of their firing.
 use Rattle.std.proofs.Common.{◌≡◌, ℕ, ◌<◌, ◌&&◌, true, List, [], ◌∷◌, length, Some, None, slice_get, refl, sym, ap, ◌∙◌, subst}
 use Rattle.std.proofs.lemmas.Bool.{and_parts}
 use Rattle.p3l_base.specs.declared.outcome.Outcome.{Outcome}
@@ -27,7 +27,7 @@ use Rattle.p3l_net.specs.Steps.{CanTake, CanPut, Done, IfValue, MayFire, Reads, 
 use Rattle.p3l_net.proofs.StepLaw.{Step, Step.Take, Step.Put, seen_after, done_as}
 use Rattle.p3l_net.proofs.Standing.{here, is_kind, row_holds, fits_as, reads_there, writes_there, ready_as, can_take, can_put, first_fits, room-seen}
 
--- what keeps a trap as it is keeps a token that carries it
+-- a function that keeps a trap as it is keeps a token that carries it
 pub stays : (makes : Outcome → Outcome) (token : Token) (trap : Trap) → token.body ≡ Trapped trap → makes (Trapped trap) ≡ Trapped trap → token ≡ over makes token
 stays makes token trap is keeps = ap (λ (body : Outcome). record token { body = body }) (is ∙ sym keeps ∙ ap makes (sym is))
 

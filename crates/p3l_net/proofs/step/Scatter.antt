@@ -1,4 +1,4 @@
--- What a scatter that may fire has, and the steps of its firing.
+-- Scatters that may fire, and the steps of their firing.
 use Rattle.std.proofs.Common.{◌≡◌, ℕ, ◌+◌, ◌-◌, ◌*◌, ◌^◌, ◌<◌, ◌≤◌, Bool, true, false, cond, nat_lt, List, [], ◌∷◌, length, Some, None, slice_get, refl, sym, ap, ◌∙◌, subst, arith}
 use Rattle.std.proofs.lemmas.Bool.{cond-true, cond-false}
 use Rattle.p3l_base.specs.declared.outcome.Outcome.{Outcome}
@@ -12,7 +12,7 @@ use Rattle.p3l_firing.specs.declared.token.Token.{Token}
 use Rattle.p3l_firing.specs.Lists.{has_first, first_or}
 use Rattle.p3l_firing.specs.Token.{credit, over}
 use Rattle.p3l_firing.specs.Nodes.{Leaf, cut_of, element_of, last_element}
-use Rattle.p3l_firing.specs.State.{Own, own_at, counted, fresh, holding, pop, push, set_own}
+use Rattle.p3l_firing.specs.State.{LocalState, own_at, counted, fresh, holding, pop, push, set_own}
 use Rattle.p3l_firing.specs.Process.{in_of}
 use Rattle.p3l_firing.specs.Widths.{FitsToken}
 use Rattle.p3l_firing.specs.Fire.{row_can, row_fire}
@@ -66,7 +66,7 @@ module _ {m : Seen} {p : ℕ} {q : Proc} (h : Stands m p q) (kind : q.kind ≡ S
         let less = (keeps_as h Scatter kind).number holds in
         omega (arith, some, count, less)
 
-    -- what the cut needs of the token that it holds
+    -- the token that it holds has what the cut needs
     pub cut_fits : IfValue (first_or credit (own_at m.owns p).held).body (λ words. HasLawfulIns (cut_of (node_at m.tree q.node).form) (length words))
     cut_fits =
         let fits = fits_scatter in
@@ -79,7 +79,7 @@ module _ {m : Seen} {p : ℕ} {q : Proc} (h : Stands m p q) (kind : q.kind ≡ S
         by_value (Trapped trap) long takes lawful = tt
 
 -- the number of what is kept after an element is small
-pub small_after : (b : Bool) (o : Own) (n : ℕ) → o.number + 1 < n → (cond b (counted o) fresh).number < n
+pub small_after : (b : Bool) (o : LocalState) (n : ℕ) → o.number + 1 < n → (cond b (counted o) fresh).number < n
 small_after true o n less = less
 small_after false o n less = omega (arith, less)
 
@@ -100,7 +100,7 @@ module _ {m : Seen} {p : ℕ} {q : Proc} (may : MayFire m p Scatter) (stands : s
     abbrev pub sent : Token
     sent = over (element_of m.tree q.node (own_at m.owns p).number) (first_or credit (own_at m.owns p).held)
 
-    abbrev pub kept : Own
+    abbrev pub kept : LocalState
     kept = cond (nat_lt (own_at m.owns p).number (element_count (cut_of (node_at m.tree q.node).form) - 1)) (counted (own_at m.owns p)) fresh
 
     abbrev pub sent_steps : List Step

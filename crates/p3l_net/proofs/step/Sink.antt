@@ -1,4 +1,4 @@
--- What a sink that may fire has, and what its firing does.
+-- Sinks that may fire, and their firing.
 use Rattle.std.proofs.Common.{◌≡◌, ℕ, ◌+◌, ◌^◌, ◌<◌, false, List, [], ◌∷◌, ◌++◌, length, Some, slice_get, refl, sym, ap, ◌∙◌, subst, inr, arith, length-append, inl}
 use Rattle.std.specs.Option.{option_to_list}
 use Rattle.std.specs.List.{AllByRecursion}
@@ -56,7 +56,7 @@ module _ {m : Seen} {p : ℕ} {q : Proc} (may : MayFire m p Sink) (stands : slic
   pub few : m.emitted + 1 < 2 ^ 64
   few = let emitted = may.sound.shaped.emitted in let count = may.count in omega (arith, emitted, count)
 
-  module _ (calm : m.trapped ≡ false) (leaf : Leaf) where
+  module _ (untrapped : m.trapped ≡ false) (leaf : Leaf) where
     abbrev pub out : Outcome
     out = (first_or credit (tokens_at m.queues (in_of q 0))).body
 
@@ -84,7 +84,7 @@ module _ {m : Seen} {p : ℕ} {q : Proc} (may : MayFire m p Sink) (stands : slic
                 new_state es
                 ∙ ap (λ x. row_fire x m.tree leaf m.net (state_of m es) p (own_at m.owns p) q) (sym kind)
                 ∙ sym (fire_at m.tree m.net (state_of m es) p q stands leaf);
-            emitted = λ es has. let count = has.count in record { count = omega (arith, count, length-append es (out ∷ [])); trap = trap_more es out (sym calm ∙ has.trap) };
+            emitted = λ es has. let count = has.count in record { count = omega (arith, count, length-append es (out ∷ [])); trap = trap_more es out (sym untrapped ∙ has.trap) };
           };
           moves = record {
             typed = may.sound.typed;

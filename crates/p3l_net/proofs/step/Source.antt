@@ -1,4 +1,4 @@
--- What a source that may fire has, and what its firing does.
+-- Sources that may fire, and their firing.
 use Rattle.std.proofs.Common.{◌≡◌, ℕ, ℤ, ◌+◌, ◌^◌, ◌<◌, ◌&&◌, true, List, [], ◌∷◌, ◌++◌, length, Option, Some, None, slice_get, refl, sym, ap, ap₂, ◌∙◌, subst, inl, arith, inr}
 use Rattle.std.specs.Option.{is_some, option_to_list}
 use Rattle.std.specs.List.{AllByRecursion}

@@ -1,4 +1,4 @@
--- What a split that may fire has, and the steps of its firing.
+-- Splits that may fire, and the steps of their firing.
 use Rattle.std.proofs.Common.{◌≡◌, ℕ, suc, ◌+◌, ◌*◌, ◌^◌, ◌<◌, ◌≤◌, ◌&&◌, true, false, cond, nat_lt, List, [], ◌∷◌, length, Option, Some, None, slice_get, refl, sym, ap, ap₂, ◌∙◌, subst, arith, lt-ltb}
 use Rattle.std.specs.Int.{IsPowerOfTwo}
 use Rattle.std.proofs.lemmas.Bool.{cond-true, cond-false}
@@ -15,7 +15,7 @@ use Rattle.p3l_firing.specs.declared.token.Token.{Token}
 use Rattle.p3l_firing.specs.Lists.{has_first, first_or}
 use Rattle.p3l_firing.specs.Token.{credit, over}
 use Rattle.p3l_firing.specs.Nodes.{Leaf, elem_of, segment_of}
-use Rattle.p3l_firing.specs.State.{Own, own_at, counted, fresh, holding, pop, push, set_own}
+use Rattle.p3l_firing.specs.State.{LocalState, own_at, counted, fresh, holding, pop, push, set_own}
 use Rattle.p3l_firing.specs.Process.{in_of, out_of}
 use Rattle.p3l_firing.specs.Widths.{FitsToken}
 use Rattle.p3l_firing.specs.Fire.{row_can, row_fire}
@@ -94,7 +94,7 @@ module _ {m : Seen} {p : ℕ} {q : Proc} (h : Stands m p q) (kind : q.kind ≡ S
   unfolding row_can row.can state_of
   free_ready none = cond-false (has_first (own_at m.owns p).held) _ _ none
 
-  -- where it holds a token it waits for room, and else for a token; a segment is there as long as it holds one
+  -- it waits for room while it holds a token, and otherwise for a token; a segment is there as long as it holds one
   pub is_ready_held : has_first (own_at m.owns p).held ≡ true → ready_at m p ≡ room_at m (out_of q (own_at m.owns p).number)
   is_ready_held holds = ready_as h Split kind ∙ held_ready holds
 
@@ -118,7 +118,7 @@ module _ {m : Seen} {p : ℕ} {q : Proc} (may : MayFire m p Split) (stands : sli
     abbrev pub sent : Token
     sent = over (segment_of m.tree q.node (length q.outs) (own_at m.owns p).number) (first_or credit (own_at m.owns p).held)
 
-    abbrev pub kept : Own
+    abbrev pub kept : LocalState
     kept = cond (nat_lt (suc (own_at m.owns p).number) (length q.outs)) (counted (own_at m.owns p)) fresh
 
     abbrev pub sent_steps : List Step

@@ -1,4 +1,4 @@
--- What a tail that may fire has, and the steps of its firing.
+-- Tails that may fire, and the steps of their firing.
 use Rattle.std.proofs.Common.{◌≡◌, ◌≢◌, ℕ, ◌+◌, ◌^◌, ◌<◌, ◌&&◌, ◌||◌, cond, not, Bool, true, false, List, [], ◌∷◌, length, Some, None, slice_get, slice_index, refl, sym, ap, ap₂, ◌∙◌, subst, inl, inr, arith}
 use Rattle.std.proofs.lemmas.Bool.{ltb-true, and_parts, cond-true, cond-false}
 use Rattle.p3l_base.specs.declared.outcome.Outcome.{Outcome}
@@ -11,7 +11,7 @@ use Rattle.p3l_firing.specs.declared.process.Proc.{Proc}
 use Rattle.p3l_firing.specs.declared.process.ProcKind.TheVariants.{Tail}
 use Rattle.p3l_firing.specs.declared.token.Token.{Token}
 use Rattle.p3l_firing.specs.Lists.{has_first, first_or}
-use Rattle.p3l_firing.specs.Token.{credit, peeled, once_more, newest_tag}
+use Rattle.p3l_firing.specs.Token.{credit, untagged, once_more, newest_tag}
 use Rattle.p3l_firing.specs.Nodes.{Leaf, most_turns, test_of, turns_of, spent_of}
 use Rattle.p3l_firing.specs.State.{has_room, own_at, gathering, pop, push, set_own}
 use Rattle.p3l_firing.specs.Process.{Has, in_of, out_of}
@@ -97,7 +97,7 @@ module _ {m : Seen} {p : ℕ} {q : Proc} (h : Stands m p q) (kind : q.kind ≡ T
       by_value (Value words) long = tested (length words) long
       by_value (Trapped trap) long = tt
 
--- whether it lets a token out doesn't rest on what was emitted
+-- it lets a token out whichever outcomes were emitted
 leaves_any : (m : Seen) (es : List Outcome) (p : ℕ) (q : Proc) → can_release m.net (state_of m es) (own_at m.owns p) q ≡ can_release m.net (state_of m []) (own_at m.owns p) q
 unfolding can_release has_room state_of
 leaves_any m es p q = refl
@@ -132,7 +132,7 @@ module _ {m : Seen} {p : ℕ} {q : Proc} (may : MayFire m p Tail) (stands : slic
         λ e. first_apart (λ (x : Proc). x.outs) m.net.procs (out_of q 0) p q (out_of q 1 ∷ (out_of q 2 ∷ [])) stands (fits_tail h kind).outs (h.sound.typed.channels (out_of q 0) there).written (out_of q 2) (inr (inl refl)) (sym e)
 
     abbrev pub let_out : Token
-    let_out = peeled (peeled (pick_number (own_at m.owns p).number (own_at m.owns p).held))
+    let_out = untagged (untagged (pick_number (own_at m.owns p).number (own_at m.owns p).held))
 
     abbrev pub out_steps : List Step
     out_steps = Keep (after_release (own_at m.owns p)) ∷ (Put (out_of q 0) let_out ∷ (Put (out_of q 2) credit ∷ []))
@@ -179,7 +179,7 @@ module _ {m : Seen} {p : ℕ} {q : Proc} (may : MayFire m p Tail) (stands : slic
         cond-false (can_release m.net (state_of m es) (own_at m.owns p) q) _ _ (leaves_any m es p q ∙ stays)
         ∙ ap (λ t. take_turn t (state_of m es) p (own_at m.owns p) q first) e
 
-    -- what its code found is what its row says
+    -- its code finds the turn that its row says
     pub found : (leaf : Leaf) (t u : Found) → row_turn t first.body ≡ next_turn m.tree leaf (state_of m []) q → t ≡ u → next_turn m.tree leaf (state_of m []) q ≡ row_turn u first.body
     found leaf t u e is = sym e ∙ ap (λ x. row_turn x first.body) is
 

@@ -63,7 +63,7 @@ impl<'t> Store<'t> {
         let output = process.output();
         let input = due.unwrap();
         let token = self.take(input);
-        self.put(output, token.peeled());
+        self.put(output, token.untagged());
         self.count(p);
         self.tick();
         Touched::two(input, output)

@@ -17,11 +17,11 @@ ghost use Rattle.p3l_net.specs.Machine.{Stands};
 ghost use Rattle.p3l_net.specs.Operators.{IsOperator, outs_of};
 ghost use Rattle.p3l_net.specs.Steps.{Done, MayFire, ready_at};
 
-use crate::copies::same;
 use crate::kinds::join::combined_of;
 use crate::store::Store;
 use crate::touched::Touched;
 use p3l_base::{NoMemory, Outcome};
+use p3l_firing::copies::same;
 use p3l_firing::{Proc, ProcKind, Token};
 use p3l_skel::Units;
 use std::alloc::Global;

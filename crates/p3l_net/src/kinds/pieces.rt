@@ -16,7 +16,7 @@ use crate::touched::Touched;
 use p3l_base::{Cut, NoMemory};
 use p3l_skel::{Form, Node};
 
-// How a map cuts its token.
+// The cut of a map.
 pub(super) fn cut_of(node: &Node) -> &Cut
     requires { IsMap node.now.form }
     ensures { result.now ≡ cut_of node.now.form }

@@ -24,7 +24,7 @@ impl<'t> Store<'t> {
     /// The sink `p` takes a token, and hands out its outcome, with the channel touched.
     pub(crate) fn fire_sink(&mut self, p: u32) -> (Outcome, Touched)
         requires may { MayFire self.old p ProcKind.Sink }
-        requires calm { self.old.trapped ≡ false }
+        requires untrapped { self.old.trapped ≡ false }
         ensures { (leaf : Leaf) → Done leaf self.old self.new p result.1 (Some result.0) }
     {
         let process = self.process(p);

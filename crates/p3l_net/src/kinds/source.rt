@@ -18,7 +18,7 @@ impl<'t> Store<'t> {
         ensures { result ≡ ready_at self.now p }
     {
         let output = process.output();
-        let item = self.has_item();
+        let item = self.inbox.is_some();
         let room = self.has_room(output);
         item & room
     }

@@ -102,7 +102,7 @@ impl<'t> Store<'t> {
     {
         let outside = process.output();
         let credits = process.nth_output(2);
-        let due = self.holds_due(p);
+        let due = self.holds_expected(p);
         let room = self.has_room(outside);
         let credit_room = self.has_room(credits);
         due & (room & credit_room)
@@ -145,8 +145,8 @@ impl<'t> Store<'t> {
         }
     }
 
-    // The tail `p` lets the token out that is expected, without its two tags, and gives its credit
-    // back.
+    // The tail `p` lets the token out that is expected, without its two tags, and returns its
+    // credit.
     fn let_token_out(&mut self, alloc: Global, p: u32) -> Touched
         requires may { MayFire self.old p ProcKind.Tail }
         requires leaves { (q : Proc) → slice_get self.old.net.procs p ≡ Some q
@@ -156,8 +156,8 @@ impl<'t> Store<'t> {
         let process = self.process(p);
         let outside = process.output();
         let credits = process.nth_output(2);
-        let token = self.let_out(p);
-        self.put(outside, token.peeled().peeled());
+        let token = self.pop_expected(p);
+        self.put(outside, token.untagged().untagged());
         self.put(credits, Token::credit(alloc));
         self.tick();
         Touched::two(outside, credits)

@@ -64,7 +64,7 @@ reach (suc d) q pos low =
           ]
     ]
 
--- how many joins there are from a place of depth d down
+-- the number of joins from a place of depth d down
 unfoldable pub join_count : ℕ → ℕ
 join_count zero = 0
 join_count (suc d) = suc (join_count d + join_count d)

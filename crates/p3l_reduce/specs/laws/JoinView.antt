@@ -1,6 +1,6 @@
--- What each row does to the flows of a tree of joins. A join takes one token of each flow below it, and no flow but
+-- Effects of each row on the flows of a tree of joins. A join takes one token of each flow below it, and no flow but
 -- these two changes (`join_flow`); folding and sending a segment change none (`fold_leaf`, `send_leaf`); a token taken
--- adds its meaning to each (`take_flow`). Where nothing can fire, nothing is left (`all_dry`).
+-- adds its meaning to each (`take_flow`). If nothing can fire, nothing is left (`all_dry`).
 use Rattle.std.proofs.Common.{◌≡◌, ℕ, zero, suc, ◌+◌, ◌-◌, ◌≤◌, ◌<◌, ◌≢◌, ◌⊎◌, inl, inr, ◌&&◌, cond, nat_lt, Bool, true, false, List, [], ◌∷◌, ◌++◌, map, length, refl, sym, ap, ap₂, ◌∙◌, subst, arith, append_assoc, append-nil, length-append, lt-ltb, le_refl, le-ltb}
 use Rattle.std.proofs.lemmas.Bool.{and_parts, and_from, cases_eq, cases_lt, cond-true, cond-false}
 use Rattle.std.proofs.lemmas.List.{map-append, length-map}

@@ -14,7 +14,7 @@ use Rattle.p3l_template.specs.Part.{Part, all_orderly}
 use Rattle.p3l_template.specs.Placed.{proc_end, chan_end}
 use Rattle.p3l_template.specs.Shape.{Base, Role, empty_chan}
 use Rattle.p3l_template.specs.Units.{Units}
-use Rattle.p3l_template.specs.Finding.{bare, bares, pending_of, AreSeated, EndsAt, IsFoundShape}
+use Rattle.p3l_template.specs.Finding.{bare, bares, pending_of, AreSlots, EndsAt, IsFoundShape}
 use Rattle.p3l_reduce.specs.ReduceKind.{bare_folding, seen_of, found_by, reduce_finds}
 use Rattle.p3l_template.specs.laws.BareLaw.{bares-over}
 use Rattle.p3l_template.specs.laws.RunFound.{run_found}
@@ -92,35 +92,35 @@ module _ (node d len : ℕ) where
   abbrev m : ℕ
   m = 2 ^ suc d
 
-  tree-orderly : (units : Units) (roles : ℕ → Role) (base : Base) (parts : List Part) (s : State) → AreSeated [] parts →
+  tree-orderly : (units : Units) (roles : ℕ → Role) (base : Base) (parts : List Part) (s : State) → AreSlots [] parts →
       (tree_part units node m d base).orderly s
       ≡ (all_orderly parts s && (found_by m (suc d) (seen_of base m s)).orderly)
-  unfolding AreSeated all_orderly found_by
-  tree-orderly units roles base [] s seated = sym (kept-bare (folding_of units node m) (view_of base m s) (suc d))
-  tree-orderly units roles base (P ∷ Ps) s seated = absurd seated
+  unfolding AreSlots all_orderly found_by
+  tree-orderly units roles base [] s slotted = sym (kept-bare (folding_of units node m) (view_of base m s) (suc d))
+  tree-orderly units roles base (P ∷ Ps) s slotted = absurd slotted
 
   tree-pending : (units : Units) (base : Base) (s : State) →
       pending_of s (tree_part units node m d base) ≡ (found_by m (suc d) (seen_of base m s)).pending
   unfolding found_by
   tree-pending units base s = sym (after-bare (folding_of units node m) (view_of base m s) (suc d) 1)
 
-  tree-ends : (units : Units) (roles : ℕ → Role) (base : Base) (parts : List Part) → AreSeated [] parts →
+  tree-ends : (units : Units) (roles : ℕ → Role) (base : Base) (parts : List Part) → AreSlots [] parts →
       EndsAt (tree_shape node m d len) base parts (tree_part units node m d base)
-  unfolding AreSeated proc_end chan_end
-  tree-ends units roles base [] seated = record {
+  unfolding AreSlots proc_end chan_end
+  tree-ends units roles base [] slotted = record {
     input = refl;
     output = refl;
     proc_to = ap (λ z. base.proc + z) (sym (tree_procs node m d len refl base));
     chan_to = refl;
   }
-  tree-ends units roles base (P ∷ Ps) seated = absurd seated
+  tree-ends units roles base (P ∷ Ps) slotted = absurd slotted
 
 pub reduce_found : (node len level : ℕ) → IsFoundShape (reduce_shape node len level) (reduce_finds level)
 unfolding reduce_shape reduce_finds
 reduce_found node len zero = run_found node
 reduce_found node len (suc d) = record {
   orderly = tree-orderly node d len;
-  pending = λ units roles base parts s seated. tree-pending node d len units base s;
+  pending = λ units roles base parts s slotted. tree-pending node d len units base s;
   ends = tree-ends node d len;
   laid = λ cap base. length-replicate (2 ^ suc d + (2 ^ suc d + 2 ^ suc d - 2)) (empty_chan cap);
 }

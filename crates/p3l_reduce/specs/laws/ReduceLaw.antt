@@ -202,7 +202,7 @@ module _ (net : Net) (units : Units) (roles : ℕ → Role) (node m d len : ℕ)
   unfolding line tee_by
   line_flow s = sym (append_assoc (s.tokens base.output) _ _)
 
-  -- where the segments' flows stay, and no T of a join's changes
+  -- the segments' flows stay, and no T of a join's changes
   record Quiet (s t : State) : Type 0 where
     inner : (q : ℕ) → 1 < q → q < m → t.tokens (tee base m q) ≡ s.tokens (tee base m q)
     leafs : (q : ℕ) → 1 < q → m ≤ q → q < m + m → flow G (seen t) 0 q ≡ flow G (seen s) 0 q
@@ -771,7 +771,7 @@ module _ (net : Net) (units : Units) (roles : ℕ → Role) (node m d len : ℕ)
 
   -- DRAIN
   module _ (s : State) (h : P.orderly s ≡ true) (quiet : (p : ℕ) → IsInside P p → can_fire units.tree net s p ≡ false)
-      (calm : has_trap s.emitted ≡ false) (room : has_room net s base.output ≡ true) where
+      (untrapped : has_trap s.emitted ≡ false) (room : has_room net s base.output ≡ true) where
     first_empty : (x y z : Bool) → z ≡ true → (x && (y && z)) ≡ false → (x ≡ false) ⊎ (y ≡ false)
     first_empty true true z e k = let f : true ≡ false = sym e ∙ k in cc
     first_empty true false z e k = inr refl
@@ -781,7 +781,7 @@ module _ (net : Net) (units : Units) (roles : ℕ → Role) (node m d len : ℕ)
         (s.tokens (tee base m (q + q)) ≡ []) ⊎ (s.tokens (tee base m (suc (q + q))) ≡ [])
     unfolding row_can run.can split.can join.can
     join_cannot q pos low r =
-        let k = cannot_at net units s (base.proc + q) (join_proc node m base q) (join_stands q pos low) calm
+        let k = cannot_at net units s (base.proc + q) (join_proc node m base q) (join_stands q pos low) untrapped
         (quiet (base.proc + q) (record { from = omega arith; to = omega (arith, low) })) in
         elim (first_empty _ _ _ r k) [ inl e ↦ inl (emptied _ e) | inr e ↦ inr (emptied _ e) ]
 
@@ -793,7 +793,7 @@ module _ (net : Net) (units : Units) (roles : ℕ → Role) (node m d len : ℕ)
         room_when_empty net s _ e (roomy _ (omega (arith, a)) (omega (arith, a, low, several))) in
         emptied _ (and_right_true _ _ r
         (cannot_at net units s (base.proc + m + u) (fold_proc node m base u (get_or (segment_lengths (suc d) len) u 0))
-        (fold_stands u low) calm (quiet (base.proc + m + u) (record { from = omega arith; to = omega (arith, low) }))))
+        (fold_stands u low) untrapped (quiet (base.proc + m + u) (record { from = omega arith; to = omega (arith, low) }))))
 
     split_cannot : cond (has_first (s.own base.proc).held)
         (nat_lt (s.own base.proc).number (length (numbers_from base.chan m))
@@ -801,7 +801,7 @@ module _ (net : Net) (units : Units) (roles : ℕ → Role) (node m d len : ℕ)
         (has_first (s.tokens base.input)) ≡ false
     unfolding row_can run.can split.can join.can
     split_cannot =
-        cannot_at net units s base.proc (split_proc node m base) split_stands calm
+        cannot_at net units s base.proc (split_proc node m base) split_stands untrapped
         (quiet base.proc (record { from = le_refl _; to = omega (arith, several) }))
 
     no_room : (c : ℕ) → 0 < (chan_at net c).cap → has_room net s c ≡ false → 0 < length (s.tokens c)
@@ -988,7 +988,7 @@ tree_lawful node m d len power = record {
   count = λ base. refl;
   laid = λ cap base. length-replicate (m + (m + m - 2)) (empty_chan cap);
   rooms = λ cap base k h l. plain_room (m + (m + m - 2)) cap k h l;
-  seats = λ net base good v l. absurd (omega arith);
+  slots = λ net base good v l. absurd (omega arith);
 }
 
 -- THE LAW OF THE REDUCE

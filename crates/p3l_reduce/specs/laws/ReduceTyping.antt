@@ -350,7 +350,7 @@ module _ (tree : Tree) (node d len elem : ℕ) (workers : Option ℕ) (there : n
           (folds_inner node m base.output base.chan (base.chan + m) 0 lengths),
     );
     procs = tree_fits;
-    seats = λ w base t s v l. absurd (omega arith);
+    slots = λ w base t s v l. absurd (omega arith);
   }
 
 -- its kind has a width for each channel

@@ -1,6 +1,6 @@
--- How many tokens a tree of joins holds, and how many to come and firings these stand for. A flow goes down the left,
+-- Numbers of tokens in a tree of joins, and of tokens to come and firings that these stand for. A flow goes down the left,
 -- to places that are greater each time, so it is no longer than all tokens inside (`flow_few`).
--- Hence as many are to come at most (`come_few`), and what is owed is at most 3 m for each (`owed_few`).
+-- Hence at most as many are to come (`come_few`), and at most 3 m firings are owed for each (`owed_few`).
 use Rattle.std.proofs.Common.{◌≡◌, ℕ, zero, suc, ◌+◌, ◌-◌, ◌*◌, ◌≤◌, ◌<◌, List, [], ◌∷◌, map, length, ap, ◌∙◌, subst, arith, length-append, sym}
 use Rattle.std.proofs.lemmas.List.{length-map}
 use Rattle.p3l_firing.specs.Token.{over}
@@ -71,7 +71,7 @@ module _ (g : Folding) (v : View) where
   send_few [] k = omega arith
   send_few (x ∷ xs) k = omega arith
 
-  -- what is to come to the out channel, and what is owed, by the tokens inside
+  -- the tokens inside bound the number of tokens to come to the out channel, and the firings owed
   pub come_few : (d : ℕ) → Deep g.count (suc d) 1 → length (after_node g v (suc d) 1) ≤ inside_in g v
   unfolding Deep after_node inside_in
   come_few d deep = omega (arith, pairwise_few (flow g v d 2) (flow g v d 3), flow_few d 2 deep.2 (omega arith))

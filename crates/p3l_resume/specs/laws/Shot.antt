@@ -1,4 +1,4 @@
--- What is saved of machines is read as it is spelled.
+-- Saved states of machines are read as they are spelled.
 use Rattle.std.proofs.Common.{refl}
 use Rattle.p3l_format.specs.Lawful.{IsLawful}
 use Rattle.p3l_format.specs.laws.Formats.{lawful_both, lawful_counted, lawful_record}

@@ -3,8 +3,8 @@ use Rattle.std.proofs.Common.{◌≡◌, ℕ, zero, suc, ◌+◌, ◌≤◌, Lis
 use Rattle.p3l_skel.specs.declared.tree.Tree.{Tree}
 use Rattle.p3l_skel.specs.Tree.{node_at}
 use Rattle.p3l_firing.specs.Widths.{Widths}
-use Rattle.p3l_template.specs.Pipe.{pipe_shape, stage_seats}
-use Rattle.p3l_template.specs.Shape.{Base, no_seat}
+use Rattle.p3l_template.specs.Pipe.{pipe_shape, stage_slots}
+use Rattle.p3l_template.specs.Shape.{Base, no_slot}
 use Rattle.p3l_template.specs.Typing.{Carry, IsTypedShape, StandsTyped}
 use Rattle.p3l_template.specs.Width.{no_width}
 use Rattle.p3l_template.specs.declared.width.Width.{Width}
@@ -14,8 +14,8 @@ pub no_tags : (row : List Width) (k n : ℕ) → length row ≡ 0 → (get_or ro
 no_tags [] k n e = omega arith
 no_tags (x ∷ row) k n e = absurd (omega (arith, e))
 
-first_input : (u x c y k : ℕ) → (get_or (stage_seats u x c y k) 0 no_seat).input ≡ x
-unfolding stage_seats
+first_input : (u x c y k : ℕ) → (get_or (stage_slots u x c y k) 0 no_slot).input ≡ x
+unfolding stage_slots
 first_input u x c y zero = refl
 first_input u x c y (suc k) = refl
 
@@ -35,7 +35,7 @@ pipe_flat tree d typed =
           let e : 2 + i ≡ suc (suc i) = omega arith in
           record { words = ap (λ c. (get_or all c no_width).words) e; tags = ap (λ c. (get_or all c no_width).tags) e };
     } in
-    let seat = typed.seats w base 0 stands 0 (omega (arith, stages_length 0 0 2 1 d)) in
-    let first : (get_or (stage_seats 0 0 2 1 d) 0 no_seat).input ≡ 0 = first_input 0 0 2 1 d in
-    let input = seat.input in
+    let slot = typed.slots w base 0 stands 0 (omega (arith, stages_length 0 0 2 1 d)) in
+    let first : (get_or (stage_slots 0 0 2 1 d) 0 no_slot).input ≡ 0 = first_input 0 0 2 1 d in
+    let input = slot.input in
     omega (arith, ap (λ c. (get_or all c no_width).tags) first, input.tags)

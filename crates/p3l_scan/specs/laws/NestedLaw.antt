@@ -1,27 +1,26 @@
--- The law of templates of templates (`nested_lawful`): a lawful template, with lawful ones at its seats, is lawful.
-use Rattle.std.proofs.Common.{◌≡◌, ◌≢◌, ℕ, zero, suc, ◌+◌, ◌-◌, ◌≤◌, ◌<◌, inl, inr, List, [], ◌∷◌, ◌++◌, length, get_or, refl, sym, ap, ap₂, ◌∙◌, subst, subst₂, arith, le_refl, length-append}
+-- The law of templates of templates (`nested_lawful`): a lawful template, with lawful ones at its slots, is lawful.
+use Rattle.std.proofs.Common.{◌≡◌, ◌≢◌, ℕ, zero, suc, ◌+◌, ◌-◌, ◌≤◌, ◌<◌, List, [], ◌∷◌, ◌++◌, length, get_or, refl, sym, ap, ◌∙◌, subst, arith, length-append}
 use Rattle.p3l_firing.specs.declared.net.Chan.{Chan}
 use Rattle.p3l_firing.specs.declared.net.Net.{Net}
 use Rattle.p3l_firing.specs.State.{chan_at, no_chan}
 use Rattle.p3l_link.specs.Laws.{IsPartAt}
-use Rattle.p3l_link.specs.Net.{Piece, base_at, inner_pieces, own_piece, whole_piece}
+use Rattle.p3l_link.specs.Net.{base_at, inner_pieces, own_piece}
 use Rattle.p3l_link.proofs.ShapeSound.{shape_sound}
 use Rattle.p3l_scan.specs.Nested.{AreInner, closed_part, closed_role, nested, nested_piece, no_role}
 use Rattle.p3l_template.specs.Part.{Part}
 use Rattle.p3l_template.specs.Placed.{IsLawfulShape, IsGoodBase, IsPlaced, LiesAt, AreStanding, AreLaid, AreChained, HaveRoom, proc_end, chan_end}
-use Rattle.p3l_template.specs.Shape.{Shape, Role, Base, Seat, no_seat}
+use Rattle.p3l_template.specs.Shape.{Blueprint, Role, Base, Slot, no_slot}
 use Rattle.p3l_template.specs.Units.{Units}
-use Rattle.p3l_template.specs.laws.Row.{stands_split}
 
 none : {A : Type 0} (xs : List A) → length xs ≡ 0 → xs ≡ []
 none [] e = refl
 none (x ∷ xs) e = absurd (omega arith)
 
--- each seat of a template without inner parts
-pub no_seats : (shape : Shape) → IsLawfulShape shape → shape.inner ≡ 0 → (base : Base) → shape.seats base ≡ []
-no_seats shape law closed base = none (shape.seats base) (law.count base ∙ closed)
+-- each slot of a template without inner parts
+pub no_slots : (shape : Blueprint) → IsLawfulShape shape → shape.inner ≡ 0 → (base : Base) → shape.slots base ≡ []
+no_slots shape law closed base = none (shape.slots base) (law.count base ∙ closed)
 
-laid_rooms : (net : Net) (shape : Shape) (law : IsLawfulShape shape) (cap : ℕ) → 0 < cap → (base : Base) →
+laid_rooms : (net : Net) (shape : Blueprint) (law : IsLawfulShape shape) (cap : ℕ) → 0 < cap → (base : Base) →
     AreLaid net base.chan (shape.laid cap base) → HaveRoom net base.chan (shape.chans base)
 laid_rooms net shape law cap pos base o =
     let n = law.laid cap base in
@@ -34,7 +33,7 @@ laid_rooms net shape law cap pos base o =
     }
 
 -- a lawful template without inner parts is sound wherever it is placed
-closed_sound : (net : Net) (units : Units) (shape : Shape) (law : IsLawfulShape shape) → shape.inner ≡ 0 → (cap : ℕ) →
+closed_sound : (net : Net) (units : Units) (shape : Blueprint) (law : IsLawfulShape shape) → shape.inner ≡ 0 → (cap : ℕ) →
     0 < cap → (base : Base) → IsGoodBase net base → AreStanding net base.proc (shape.procs base) →
     AreLaid net base.chan (shape.laid cap base) →
     IsPartAt net units (closed_role units shape) base (own_piece shape cap base) (closed_part units shape base)
@@ -49,7 +48,7 @@ closed_sound net units shape law closed cap pos base good s o =
       pos = pos;
       laid = o;
       inner = subst (λ xs. AreChained net units (λ v. no_role) (base.proc + length (shape.procs base))
-          (base.chan + shape.chans base) xs []) (sym (no_seats shape law closed base)) tt;
+          (base.chan + shape.chans base) xs []) (sym (no_slots shape law closed base)) tt;
     } in
     let l = law.lies net units (λ v. no_role) base [] placed in
     record {
@@ -65,16 +64,16 @@ closed_sound net units shape law closed cap pos base good s o =
     }
 
 -- at each capacity the inner templates have the same processes, and as many channels
-module _ (inner : ℕ → Shape) (a b : ℕ) where
-  AreLawfulAt : List Seat → Type 0
-  AreLawfulAt xs = (v : ℕ) → v < length xs → IsLawfulShape (inner (get_or xs v no_seat).part)
+module _ (inner : ℕ → Blueprint) (a b : ℕ) where
+  AreLawfulAt : List Slot → Type 0
+  AreLawfulAt xs = (v : ℕ) → v < length xs → IsLawfulShape (inner (get_or xs v no_slot).part)
 
-  same_procs : (xs : List Seat) (p c : ℕ) → AreLawfulAt xs →
+  same_procs : (xs : List Slot) (p c : ℕ) → AreLawfulAt xs →
       (inner_pieces (λ v. own_piece (inner v) a) xs p c).procs ≡ (inner_pieces (λ v. own_piece (inner v) b) xs p c).procs
   unfolding inner_pieces AreLawfulAt
   same_procs [] p c laws = refl
   same_procs (x ∷ xs) p c laws =
-      let here : Shape = inner x.part in
+      let here : Blueprint = inner x.part in
       let base : Base = base_at x p c in
       let law : IsLawfulShape here = laws 0 (omega arith) in
       let e : length (here.laid a base) ≡ length (here.laid b base) = law.laid a base ∙ sym (law.laid b base) in
@@ -82,13 +81,13 @@ module _ (inner : ℕ → Shape) (a b : ℕ) where
       (c + n)).procs) e ∙ same_procs xs (p + length (here.procs base)) (c + length (here.laid b base))
       (λ v l. laws (suc v) (omega arith)))
 
-  same_count : (xs : List Seat) (p c : ℕ) → AreLawfulAt xs →
+  same_count : (xs : List Slot) (p c : ℕ) → AreLawfulAt xs →
       length (inner_pieces (λ v. own_piece (inner v) a) xs p c).chans
       ≡ length (inner_pieces (λ v. own_piece (inner v) b) xs p c).chans
   unfolding inner_pieces AreLawfulAt
   same_count [] p c laws = refl
   same_count (x ∷ xs) p c laws =
-      let here : Shape = inner x.part in
+      let here : Blueprint = inner x.part in
       let base : Base = base_at x p c in
       let law : IsLawfulShape here = laws 0 (omega arith) in
       let e : length (here.laid a base) ≡ length (here.laid b base) = law.laid a base ∙ sym (law.laid b base) in
@@ -115,8 +114,8 @@ caps_append [] ys h r k l = r k l
 caps_append (x ∷ xs) ys h r zero l = h 0 (omega arith)
 caps_append (x ∷ xs) ys h r (suc k) l = caps_append xs ys (λ j i. h (suc j) (omega arith)) r k (omega arith)
 
-inner_caps : (inner : ℕ → Shape) (cap : ℕ) → 0 < cap → (xs : List Seat) (p c : ℕ) →
-    ((v : ℕ) → v < length xs → IsLawfulShape (inner (get_or xs v no_seat).part)) →
+inner_caps : (inner : ℕ → Blueprint) (cap : ℕ) → 0 < cap → (xs : List Slot) (p c : ℕ) →
+    ((v : ℕ) → v < length xs → IsLawfulShape (inner (get_or xs v no_slot).part)) →
     HaveCap (inner_pieces (λ v. own_piece (inner v) cap) xs p c).chans
 unfolding inner_pieces HaveCap
 inner_caps inner cap pos [] p c laws k l = absurd (omega arith)
@@ -126,16 +125,16 @@ inner_caps inner cap pos (x ∷ xs) p c laws k l =
     caps_append ((inner x.part).laid cap base) _ (λ j i. law.rooms cap base j pos i)
     (inner_caps inner cap pos xs _ _ (λ v i. laws (suc v) (omega arith))) k l
 
-module _ (outer : Shape) (which : ℕ → ℕ) (inner : ℕ → Shape) (law : IsLawfulShape outer) (are : AreInner outer which inner) where
-  pub laws_at : (base : Base) (v : ℕ) → v < length (outer.seats base) →
-      IsLawfulShape (inner (get_or (outer.seats base) v no_seat).part) × ((inner (get_or (outer.seats base) v no_seat).part).inner ≡ 0)
+module _ (outer : Blueprint) (which : ℕ → ℕ) (inner : ℕ → Blueprint) (law : IsLawfulShape outer) (are : AreInner outer which inner) where
+  pub laws_at : (base : Base) (v : ℕ) → v < length (outer.slots base) →
+      IsLawfulShape (inner (get_or (outer.slots base) v no_slot).part) × ((inner (get_or (outer.slots base) v no_slot).part).inner ≡ 0)
   laws_at base v l =
       let i : v < outer.inner = omega (arith, l, law.count base) in
       subst (λ z. IsLawfulShape (inner z) × ((inner z).inner ≡ 0)) (sym (are.part base v i)) (are.lawful v i, are.closed v i)
 
   pub nested_procs : (a b : ℕ) (base : Base) → (nested_piece outer inner a base).procs ≡ (nested_piece outer inner b base).procs
   unfolding AreLawfulAt
-  nested_procs a b base = ap (λ z. outer.procs base ++ z) (same_procs inner a b (outer.seats base) _ _ (λ v l. (laws_at base v l).0))
+  nested_procs a b base = ap (λ z. outer.procs base ++ z) (same_procs inner a b (outer.slots base) _ _ (λ v l. (laws_at base v l).0))
 
   pub nested_count : (a b : ℕ) (base : Base) →
       length (nested_piece outer inner a base).chans ≡ length (nested_piece outer inner b base).chans
@@ -147,9 +146,9 @@ module _ (outer : Shape) (which : ℕ → ℕ) (inner : ℕ → Shape) (law : Is
         arith,
         law.laid a base,
         law.laid b base,
-        same_count inner a b (outer.seats base) p c (λ v l. (laws_at base v l).0),
-        length-append (outer.laid a base) (inner_pieces (λ v. own_piece (inner v) a) (outer.seats base) p c).chans,
-        length-append (outer.laid b base) (inner_pieces (λ v. own_piece (inner v) b) (outer.seats base) p c).chans,
+        same_count inner a b (outer.slots base) p c (λ v l. (laws_at base v l).0),
+        length-append (outer.laid a base) (inner_pieces (λ v. own_piece (inner v) a) (outer.slots base) p c).chans,
+        length-append (outer.laid b base) (inner_pieces (λ v. own_piece (inner v) b) (outer.slots base) p c).chans,
       )
 
   -- placed, it is a part of the net
@@ -200,6 +199,6 @@ module _ (outer : Shape) (which : ℕ → ℕ) (inner : ℕ → Shape) (law : Is
     laid = λ cap base. nested_count cap 1 base;
     rooms = λ cap base k pos l.
         caps_append (outer.laid cap base) _ (λ j i. law.rooms cap base j pos i)
-        (inner_caps inner cap pos (outer.seats base) _ _ (λ v i. (laws_at base v i).0)) k l;
-    seats = λ net base good v l. absurd (omega arith);
+        (inner_caps inner cap pos (outer.slots base) _ _ (λ v i. (laws_at base v i).0)) k l;
+    slots = λ net base good v l. absurd (omega arith);
   }

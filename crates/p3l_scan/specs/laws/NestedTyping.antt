@@ -1,17 +1,14 @@
 -- The typing law of templates of templates (`nested_typed`): a typed template whose inner parts have tokens of no more tags, with
--- typed ones at its seats, is typed. Before it, that any typed template is round typed pieces (`whole_typed`), which is the step of
+-- typed ones at its slots, is typed. Before it, that any typed template is round typed pieces (`whole_typed`), which is the step of
 -- the linker's recursion too.
 use Rattle.std.proofs.Common.{◌≡◌, ℕ, zero, suc, ◌+◌, ◌<◌, ◌≤◌, List, [], ◌∷◌, ◌++◌, length, get_or, inl, inr, ◌⊎◌, refl, sym, ap, ◌∙◌, subst, arith, length-append}
 use Rattle.std.specs.List.{AllByRecursion}
 use Rattle.std.proofs.lemmas.Bool.{cases_lt}
-use Rattle.std.proofs.lemmas.Grind.{flat_map-append}
-use Rattle.std.proofs.lemmas.List.{get_or-append-add, get_or_append_left}
 use Rattle.p3l_skel.specs.declared.tree.Tree.{Tree}
 use Rattle.p3l_skel.specs.Tree.{node_at, part_at}
 use Rattle.p3l_firing.specs.declared.net.Chan.{Chan}
 use Rattle.p3l_firing.specs.declared.process.Proc.{Proc}
 use Rattle.p3l_firing.specs.Process.{all_ins, all_outs, times}
-use Rattle.p3l_firing.specs.State.{no_chan}
 use Rattle.p3l_firing.specs.Typed.{FitsKind}
 use Rattle.p3l_firing.specs.Widths.{Widths, Carries}
 use Rattle.p3l_link.specs.Net.{Piece, base_at, inner_pieces, own_piece, whole_piece}
@@ -19,12 +16,12 @@ use Rattle.p3l_link.proofs.Once.{HasOnce, HaveOnce, inner_once, whole_once}
 use Rattle.p3l_link.proofs.Widths.{AllRows, all_append, carry_left, carry_right, rows_append, rows_at, rows_few, rows_from}
 use Rattle.p3l_scan.specs.Nested.{AreInner, AreTypedInner, nested, nested_piece}
 use Rattle.p3l_template.specs.Placed.{IsLawfulShape}
-use Rattle.p3l_template.specs.Shape.{Base, Seat, Shape, no_seat, numbers_from}
-use Rattle.p3l_template.specs.Typing.{Carry, IsInner, IsTypedShape, SeatFits, StandsTyped, seat_ins, seat_outs}
+use Rattle.p3l_template.specs.Shape.{Base, Slot, Blueprint, no_slot, numbers_from}
+use Rattle.p3l_template.specs.Typing.{Carry, IsInner, IsTypedShape, SlotFits, StandsTyped, slot_ins, slot_outs}
 use Rattle.p3l_template.specs.Width.{no_width}
 use Rattle.p3l_template.specs.declared.width.Width.{Width}
-use Rattle.p3l_scan.specs.laws.NestedLaw.{no_seats}
-use Rattle.p3l_template.specs.laws.TimesLaw.{numbers_append, times_append, times_cons, times_none}
+use Rattle.p3l_scan.specs.laws.NestedLaw.{no_slots}
+use Rattle.p3l_template.specs.laws.TimesLaw.{times_append, times_none}
 
 -- a channel that carries this width: no more credits than room, what has credits carries no words and no tags, and others at most
 -- `most` tags
@@ -35,7 +32,7 @@ pub record FitsRow (most : ℕ) (chan : Chan) (row : Width) : Type 0 where
 
 -- PIECES
 
--- what a node places at a base, where tokens outside have t tags, and its channels carry these widths: none has more than `most`
+-- the piece of a node at a base, where tokens outside have t tags, and its channels carry these widths: none has more than `most`
 -- tags; it reads and writes each of them and its ports once, and it fits there
 pub record IsTypedPiece (tree : Tree) (node : ℕ) (base : Base) (t most : ℕ) (rows : List Width) (F : Piece) : Type 0 where
   pub count : length rows ≡ length F.chans
@@ -45,13 +42,13 @@ pub record IsTypedPiece (tree : Tree) (node : ℕ) (base : Base) (t most : ℕ) 
   pub fits : (w : Widths) → Carries w base.input (node_at tree node).ins t → Carries w base.output (node_at tree node).outs t →
       Carry w base.chan rows → AllByRecursion (λ (q : Proc). FitsKind q.kind tree w q) F.procs
 
--- the same of the inner parts of a node at these seats, whose channels are those from c on
-record IsTypedRow (tree : Tree) (node : ℕ) (seats : List Seat) (c t most : ℕ) (rows : List Width) (F : Piece) : Type 0 where
+-- the same of the inner parts of a node at these slots, whose channels are those from c on
+record IsTypedRow (tree : Tree) (node : ℕ) (slots : List Slot) (c t most : ℕ) (rows : List Width) (F : Piece) : Type 0 where
   count : length rows ≡ length F.chans
   fit : AllRows (FitsRow most) F.chans rows
-  once : HaveOnce seats c F
+  once : HaveOnce slots c F
   inner : AllByRecursion (λ (q : Proc). IsInner q.kind) F.procs
-  fits : (w : Widths) → ((v : ℕ) → v < length seats → SeatFits tree node w t (get_or seats v no_seat)) → Carry w c rows →
+  fits : (w : Widths) → ((v : ℕ) → v < length slots → SlotFits tree node w t (get_or slots v no_slot)) → Carry w c rows →
       AllByRecursion (λ (q : Proc). FitsKind q.kind tree w q) F.procs
 
 -- the widths of n pieces, one after the other
@@ -59,10 +56,10 @@ unfoldable pub rows_of : ℕ → (ℕ → List Width) → List Width
 rows_of zero rows = []
 rows_of (suc n) rows = rows 0 ++ rows_of n (λ v. rows (suc v))
 
-row_typed : (tree : Tree) (node t most : ℕ) (f : ℕ → Base → Piece) (seats : List Seat) (rows : ℕ → List Width) (p c : ℕ) →
-    ((v : ℕ) → v < length seats → (b : Base) →
-    IsTypedPiece tree (part_at tree node (get_or seats v no_seat).part) b t most (rows v) (f (get_or seats v no_seat).part b)) →
-    IsTypedRow tree node seats c t most (rows_of (length seats) rows) (inner_pieces f seats p c)
+row_typed : (tree : Tree) (node t most : ℕ) (f : ℕ → Base → Piece) (slots : List Slot) (rows : ℕ → List Width) (p c : ℕ) →
+    ((v : ℕ) → v < length slots → (b : Base) →
+    IsTypedPiece tree (part_at tree node (get_or slots v no_slot).part) b t most (rows v) (f (get_or slots v no_slot).part b)) →
+    IsTypedRow tree node slots c t most (rows_of (length slots) rows) (inner_pieces f slots p c)
 unfolding inner_pieces AllRows rows_of
 row_typed tree node t most f [] rows p c each = record {
   count = refl;
@@ -87,7 +84,7 @@ row_typed tree node t most f (x ∷ xs) rows p c each =
       once = inner_once f (x ∷ xs) p c (λ v l b. let it = each v l b in it.once);
       inner = all_append (λ (q : Proc). IsInner q.kind) F.procs G.procs here.inner rest.inner;
       fits = λ w s h.
-          let first : SeatFits tree node w t x = s 0 (omega arith) in
+          let first : SlotFits tree node w t x = s 0 (omega arith) in
           all_append (λ (q : Proc). FitsKind q.kind tree w q) F.procs G.procs
           (here.fits w first.input first.output (carry_left w c (rows 0) more h))
           (rest.fits w (λ v l. s (suc v) (omega arith))
@@ -95,19 +92,19 @@ row_typed tree node t most f (x ∷ xs) rows p c each =
     }
 
 -- a typed template, round pieces that are typed
-pub whole_typed : (tree : Tree) (node t most : ℕ) (cap : ℕ) (shape : Shape) (law : IsLawfulShape shape)
+pub whole_typed : (tree : Tree) (node t most : ℕ) (cap : ℕ) (shape : Blueprint) (law : IsLawfulShape shape)
     (typed : IsTypedShape tree node shape) (f : ℕ → Base → Piece) (rows : ℕ → List Width) (base : Base) → t + 2 ≤ most →
-    ((v : ℕ) → v < length (shape.seats base) → (b : Base) →
-    IsTypedPiece tree (part_at tree node (get_or (shape.seats base) v no_seat).part) b (t + typed.deeper) most (rows v)
-    (f (get_or (shape.seats base) v no_seat).part b)) →
-    IsTypedPiece tree node base t most (typed.widths t ++ rows_of (length (shape.seats base)) rows) (whole_piece shape cap f base)
+    ((v : ℕ) → v < length (shape.slots base) → (b : Base) →
+    IsTypedPiece tree (part_at tree node (get_or (shape.slots base) v no_slot).part) b (t + typed.deeper) most (rows v)
+    (f (get_or (shape.slots base) v no_slot).part b)) →
+    IsTypedPiece tree node base t most (typed.widths t ++ rows_of (length (shape.slots base)) rows) (whole_piece shape cap f base)
 whole_typed tree node t most cap shape law typed f rows base above each =
-    let seats : List Seat = shape.seats base in
+    let slots : List Slot = shape.slots base in
     let own : List Chan = shape.laid cap base in
-    let G : Piece = inner_pieces f seats (base.proc + length (shape.procs base)) (base.chan + shape.chans base) in
-    let more : List Width = rows_of (length seats) rows in
-    let rest : IsTypedRow tree node seats (base.chan + shape.chans base) (t + typed.deeper) most more G =
-    row_typed tree node (t + typed.deeper) most f seats rows (base.proc + length (shape.procs base))
+    let G : Piece = inner_pieces f slots (base.proc + length (shape.procs base)) (base.chan + shape.chans base) in
+    let more : List Width = rows_of (length slots) rows in
+    let rest : IsTypedRow tree node slots (base.chan + shape.chans base) (t + typed.deeper) most more G =
+    row_typed tree node (t + typed.deeper) most f slots rows (base.proc + length (shape.procs base))
     (base.chan + shape.chans base) each in
     let long : length own ≡ shape.chans base = law.laid cap base in
     let wide : length (typed.widths t) ≡ shape.chans base = typed.count t base in
@@ -127,18 +124,18 @@ whole_typed tree node t most cap shape law typed f rows base above each =
       fits = λ w i o h.
           let s = stands w i o h in
           all_append (λ (q : Proc). FitsKind q.kind tree w q) (shape.procs base) G.procs (typed.procs w base t s)
-          (rest.fits w (λ v l. typed.seats w base t s v l)
+          (rest.fits w (λ v l. typed.slots w base t s v l)
           (subst (λ n. Carry w (base.chan + n) more) wide (carry_right w base.chan (typed.widths t) more h)));
     }
 
 -- a typed template without inner parts is a typed piece
-closed_typed : (tree : Tree) (node t most cap : ℕ) (shape : Shape) (law : IsLawfulShape shape) → shape.inner ≡ 0 →
+closed_typed : (tree : Tree) (node t most cap : ℕ) (shape : Blueprint) (law : IsLawfulShape shape) → shape.inner ≡ 0 →
     (typed : IsTypedShape tree node shape) → ((k : ℕ) → (get_or (typed.widths t) k no_width).tags ≤ most) → (base : Base) →
     IsTypedPiece tree node base t most (typed.widths t) (own_piece shape cap base)
 closed_typed tree node t most cap shape law closed typed tags base =
     let long : length (shape.laid cap base) ≡ shape.chans base = law.laid cap base in
     let wide : length (typed.widths t) ≡ shape.chans base = typed.count t base in
-    let empty = no_seats shape law closed base in
+    let empty = no_slots shape law closed base in
     record {
       count = omega (arith, long, wide);
       fit = rows_from (FitsRow most) (shape.laid cap base) (typed.widths t) (omega (arith, long, wide))
@@ -148,16 +145,16 @@ closed_typed tree node t most cap shape law closed typed tags base =
         reads = λ y. omega (
           arith,
           typed.reads base y,
-          times_append y (all_ins (shape.procs base)) (seat_ins (shape.seats base)),
-          ap (λ xs. times y (seat_ins xs)) empty,
+          times_append y (all_ins (shape.procs base)) (slot_ins (shape.slots base)),
+          ap (λ xs. times y (slot_ins xs)) empty,
           times_none y,
           ap (λ n. times y (base.input ∷ numbers_from base.chan n)) long,
         );
         writes = λ y. omega (
           arith,
           typed.writes base y,
-          times_append y (all_outs (shape.procs base)) (seat_outs (shape.seats base)),
-          ap (λ xs. times y (seat_outs xs)) empty,
+          times_append y (all_outs (shape.procs base)) (slot_outs (shape.slots base)),
+          ap (λ xs. times y (slot_outs xs)) empty,
           times_none y,
           ap (λ n. times y (base.output ∷ numbers_from base.chan n)) long,
         );
@@ -166,22 +163,22 @@ closed_typed tree node t most cap shape law closed typed tags base =
       fits = λ w i o h. typed.procs w base t (record { input = i; output = o; own = h });
     }
 
--- where tokens outside have t tags, those in the channels of the inner templates have at most two more
-pub record AreShallow (tree : Tree) (node : ℕ) (outer : Shape) (which : ℕ → ℕ) (inner : ℕ → Shape)
+-- tokens in the channels of the inner templates have at most two tags more than the t of tokens outside
+pub record AreShallow (tree : Tree) (node : ℕ) (outer : Blueprint) (which : ℕ → ℕ) (inner : ℕ → Blueprint)
     (typed : IsTypedShape tree node outer) (inners : AreTypedInner tree node outer which inner) : Type 0 where
   pub low : (t v k : ℕ) (l : v < outer.inner) →
       (get_or ((inners.each v l).widths (t + typed.deeper)) k no_width).tags ≤ t + 2
 
-module _ (tree : Tree) (node : ℕ) (outer : Shape) (which : ℕ → ℕ) (inner : ℕ → Shape) (law : IsLawfulShape outer)
+module _ (tree : Tree) (node : ℕ) (outer : Blueprint) (which : ℕ → ℕ) (inner : ℕ → Blueprint) (law : IsLawfulShape outer)
     (are : AreInner outer which inner) (typed : IsTypedShape tree node outer) (inners : AreTypedInner tree node outer which inner)
     (shallow : AreShallow tree node outer which inner typed inners) where
-  -- the widths of the template at seat v, where there is one
+  -- the widths of the template at slot v, where there is one
   widths_at : (t v : ℕ) → (v < outer.inner) ⊎ (outer.inner ≤ v) → List Width
   widths_at t v (inl l) = let i = inners.each v l in i.widths t
   widths_at t v (inr h) = []
 
-  seat_rows : (t v : ℕ) → List Width
-  seat_rows t v = widths_at t v (cases_lt v outer.inner)
+  slot_rows : (t v : ℕ) → List Width
+  slot_rows t v = widths_at t v (cases_lt v outer.inner)
 
   piece_at : (t cap : ℕ) (base : Base) (v : ℕ) (l : v < outer.inner) (d : (v < outer.inner) ⊎ (outer.inner ≤ v)) →
       IsTypedPiece tree (part_at tree node (which v)) base (t + typed.deeper) (t + 2) (widths_at (t + typed.deeper) v d)
@@ -193,19 +190,19 @@ module _ (tree : Tree) (node : ℕ) (outer : Shape) (which : ℕ → ℕ) (inner
   piece_at t cap base v l (inr h) = absurd (omega arith)
 
   nested_rows : ℕ → List Width
-  nested_rows t = typed.widths t ++ rows_of outer.inner (seat_rows (t + typed.deeper))
+  nested_rows t = typed.widths t ++ rows_of outer.inner (slot_rows (t + typed.deeper))
 
   piece_typed : (t cap : ℕ) (base : Base) →
       IsTypedPiece tree node base t (t + 2) (nested_rows t) (nested_piece outer inner cap base)
-  unfolding seat_rows nested_rows
+  unfolding slot_rows nested_rows
   piece_typed t cap base =
       let u : ℕ = t + typed.deeper in
-      subst (λ n. IsTypedPiece tree node base t (t + 2) (typed.widths t ++ rows_of n (seat_rows u))
+      subst (λ n. IsTypedPiece tree node base t (t + 2) (typed.widths t ++ rows_of n (slot_rows u))
       (nested_piece outer inner cap base)) (law.count base)
-      (whole_typed tree node t (t + 2) cap outer law typed (λ v. own_piece (inner v) cap) (seat_rows u) base (omega arith)
+      (whole_typed tree node t (t + 2) cap outer law typed (λ v. own_piece (inner v) cap) (slot_rows u) base (omega arith)
       (λ v l b.
       let i : v < outer.inner = omega (arith, l, law.count base) in
-      subst (λ z. IsTypedPiece tree (part_at tree node z) b u (t + 2) (seat_rows u v) (own_piece (inner z) cap b))
+      subst (λ z. IsTypedPiece tree (part_at tree node z) b u (t + 2) (slot_rows u v) (own_piece (inner z) cap b))
       (sym (are.part base v i)) (piece_at t cap b v i (cases_lt v outer.inner))))
 
   pub nested_typed : IsTypedShape tree node (nested outer inner)
@@ -240,5 +237,5 @@ module _ (tree : Tree) (node : ℕ) (outer : Shape) (which : ℕ → ℕ) (inner
         );
     inner = λ base. let p = piece_typed 0 1 base in p.inner;
     procs = λ w base t s. let p = piece_typed t 1 base in p.fits w s.input s.output s.own;
-    seats = λ w base t s v l. absurd (omega arith);
+    slots = λ w base t s v l. absurd (omega arith);
   }

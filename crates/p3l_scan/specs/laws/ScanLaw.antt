@@ -8,7 +8,7 @@ use Rattle.p3l_scan.specs.Nested.{AreInner, AreTypedInner}
 use Rattle.p3l_template.specs.Pipe.{pipe_shape}
 use Rattle.p3l_template.specs.Placed.{IsLawfulShape}
 use Rattle.p3l_template.specs.Run.{run_shape}
-use Rattle.p3l_template.specs.Shape.{Shape}
+use Rattle.p3l_template.specs.Shape.{Blueprint}
 use Rattle.p3l_template.specs.Typing.{IsTypedShape}
 use Rattle.p3l_template.specs.laws.Fan.{fan_at}
 use Rattle.p3l_scan.specs.laws.NestedLaw.{nested_lawful}
@@ -65,7 +65,7 @@ some_blocks d s = power (d - s) where
   power (suc n) = let h = power n in omega (arith, h)
 
 module _ (d : ℕ) where
-  abbrev stage : ℕ → Shape
+  abbrev stage : ℕ → Blueprint
   stage s = stage_shape (stage_node s) (step_node s) (blocks d s)
 
   pub stages_inner : AreInner (pipe_shape d) (λ v. v) stage

@@ -1,4 +1,4 @@
--- What the steps of a plan give has the words of their nodes.
+-- Results of the steps of a plan have the words of their nodes.
 use Rattle.std.proofs.Common.{◌≡◌, ℕ, ℤ, ◌*◌, ◌^◌, ◌<◌, Bool, true, false, inl, inr, List, length, refl, arith, ap, sym, ◌∙◌, subst}
 use Rattle.std.specs.Prelude.{nat_eq}
 use Rattle.std.proofs.lemmas.Bool.Decides.{nat_tests}
@@ -15,7 +15,7 @@ fits : (n home : ℕ) (words : List ℤ) (b : Bool) → nat_eq (length words) n 
 fits n home words true e = let same : length words ≡ n = grind (arith, nat_tests) in rw e same
 fits n home words false e = rw e tt
 
--- what was fitted has `n` words
+-- a fitted outcome has `n` words
 pub fitted_fits : (n home : ℕ) (outcome : Outcome) → HasLength n (fitted n home outcome)
 fitted_fits n home (Trapped trap) = tt
 fitted_fits n home (Value words) = fits n home words (nat_eq (length words) n) refl

@@ -3,12 +3,12 @@
 -- (`moved_read`). In each case every number occurs there once again. Farm and loop depend on it.
 use Rattle.std.proofs.Common.{◌≡◌, ℕ, zero, suc, ◌+◌, ◌≤◌, ◌<◌, ◌≢◌, inl, inr, true, List, [], ◌∷◌, ◌++◌, length, refl, sym, ap, ap₂, ◌∙◌, subst, arith, append_assoc, append-nil, length-append, eqb-true, eq-eqb, ne_eqb, lt-ltb, ltb-true, leb-true, le-leb}
 use Rattle.std.proofs.lemmas.Bool.{cases_eq, cases_lt, cond-true, cond-false, and_parts, and_from}
-use Rattle.p3l_firing.specs.Token.{newest_tag, peeled}
+use Rattle.p3l_firing.specs.Token.{newest_tag, untagged}
 use Rattle.p3l_firing.specs.declared.token.Token.{Token}
 use Rattle.p3l_template.specs.Bag.{look, read, each_once, all_within, numbered, IsNumbered}
 pub use Rattle.p3l_template.specs.laws.Lists.{none_left}
 
-pub look_here : (k : ℕ) (x : Token) (xs : List Token) → newest_tag x ≡ k → look k (x ∷ xs) ≡ peeled x ∷ look k xs
+pub look_here : (k : ℕ) (x : Token) (xs : List Token) → newest_tag x ≡ k → look k (x ∷ xs) ≡ untagged x ∷ look k xs
 unfolding look
 look_here k x xs e = cond-true _ _ _ (eq-eqb (newest_tag x) k e)
 
@@ -25,12 +25,12 @@ look_append k [] ys = ap (λ z. z ++ look k ys) (sym (look_empty k))
 look_append k (x ∷ xs) ys =
     elim (cases_eq (newest_tag x) k) [
       | inl e ↦
-          look_here k x (xs ++ ys) e ∙ ap (λ z. peeled x ∷ z) (look_append k xs ys)
+          look_here k x (xs ++ ys) e ∙ ap (λ z. untagged x ∷ z) (look_append k xs ys)
           ∙ ap (λ z. z ++ look k ys) (sym (look_here k x xs e))
       | inr e ↦ look_there k x (xs ++ ys) e ∙ look_append k xs ys ∙ ap (λ z. z ++ look k ys) (sym (look_there k x xs e))
     ]
 
--- what is before, at and after x
+-- a look at a list reads the tokens before x, x, and the tokens after it
 look_mid : (k : ℕ) (xs : List Token) (x : Token) (ys : List Token) →
     look k (xs ++ x ∷ ys) ≡ look k xs ++ (look k (x ∷ []) ++ look k ys)
 look_mid k xs x ys = look_append k xs (x ∷ ys) ∙ ap (λ z. look k xs ++ z) (look_append k (x ∷ []) ys)
@@ -105,7 +105,7 @@ numbered_to xs c h = record {
 pub numbered_from : (xs : List Token) (c : ℕ) → IsNumbered xs c → numbered xs c ≡ true
 numbered_from xs c n = and_from _ _ (once_from xs c (length xs) n.once) (within_from c (c + length xs) xs n.none)
 
--- what is read of the other numbers
+-- a look at another number doesn't read x
 without_look : (k : ℕ) (xs : List Token) (x : Token) (ys : List Token) → newest_tag x ≢ k →
     look k (xs ++ x ∷ ys) ≡ look k (xs ++ ys)
 without_look k xs x ys h =
@@ -114,14 +114,14 @@ without_look k xs x ys h =
 
 -- and of its own
 with_look : (k : ℕ) (xs : List Token) (x : Token) (ys : List Token) → newest_tag x ≡ k →
-    look k (xs ++ x ∷ ys) ≡ look k xs ++ (peeled x ∷ look k ys)
+    look k (xs ++ x ∷ ys) ≡ look k xs ++ (untagged x ∷ look k ys)
 with_look k xs x ys h = look_append k xs (x ∷ ys) ∙ ap (λ z. look k xs ++ z) (look_here k x ys h)
 
 with_length : (k : ℕ) (xs : List Token) (x : Token) (ys : List Token) → newest_tag x ≡ k →
     length (look k (xs ++ x ∷ ys)) ≡ suc (length (look k (xs ++ ys)))
 with_length k xs x ys h =
     let a = ap length (with_look k xs x ys h) in
-    let b = length-append (look k xs) (peeled x ∷ look k ys) in
+    let b = length-append (look k xs) (untagged x ∷ look k ys) in
     let c = ap length (look_append k xs ys) in
     let d = length-append (look k xs) (look k ys) in
     omega (arith, a, b, c, d)
@@ -151,7 +151,7 @@ insert_numbered xs x ys c n e =
     }
 
 read_more : (xs : List Token) (x : Token) (ys : List Token) (c m : ℕ) → newest_tag x ≡ c + m →
-    length (look (newest_tag x) (xs ++ ys)) ≡ 0 → read (xs ++ x ∷ ys) c (suc m) ≡ read (xs ++ ys) c m ++ peeled x ∷ []
+    length (look (newest_tag x) (xs ++ ys)) ≡ 0 → read (xs ++ x ∷ ys) c (suc m) ≡ read (xs ++ ys) c m ++ untagged x ∷ []
 unfolding read
 read_more xs x ys c zero e h =
     let k : newest_tag x ≡ c = omega arith in
@@ -159,14 +159,14 @@ read_more xs x ys c zero e h =
     with_length c xs x ys k ∙ ap suc (ap (λ z. length (look z (xs ++ ys))) (sym k) ∙ h) in
     ap (λ z. z ++ [])
     (with_look c xs x ys k
-    ∙ one_alone (look c xs) (peeled x) (look c ys) (ap length (sym (with_look c xs x ys k)) ∙ one))
+    ∙ one_alone (look c xs) (untagged x) (look c ys) (ap length (sym (with_look c xs x ys k)) ∙ one))
 read_more xs x ys c (suc m) e h =
     ap₂ (λ a b. a ++ b) (without_look c xs x ys (omega (arith, e))) (read_more xs x ys (suc c) m (omega arith) h)
     ∙ sym (append_assoc (look c (xs ++ ys)) _ _)
 
 pub insert_read : (xs : List Token) (x : Token) (ys : List Token) (c : ℕ) → IsNumbered (xs ++ ys) c →
     newest_tag x ≡ c + length (xs ++ ys) →
-    read (xs ++ x ∷ ys) c (length (xs ++ x ∷ ys)) ≡ read (xs ++ ys) c (length (xs ++ ys)) ++ peeled x ∷ []
+    read (xs ++ x ∷ ys) c (length (xs ++ x ∷ ys)) ≡ read (xs ++ ys) c (length (xs ++ ys)) ++ untagged x ∷ []
 insert_read xs x ys c n e =
     ap (read (xs ++ x ∷ ys) c) (without_count xs x ys)
     ∙ read_more xs x ys c (length (xs ++ ys)) e (n.none (newest_tag x) (λ _. omega (arith, e)))
@@ -179,11 +179,11 @@ append_numbered xs x c n e =
     (e ∙ ap (λ z. c + length z) (sym (append-nil xs)))
 
 pub append_read : (xs : List Token) (x : Token) (c : ℕ) → IsNumbered xs c → newest_tag x ≡ c + length xs →
-    read (xs ++ x ∷ []) c (length (xs ++ x ∷ [])) ≡ read xs c (length xs) ++ peeled x ∷ []
+    read (xs ++ x ∷ []) c (length (xs ++ x ∷ [])) ≡ read xs c (length xs) ++ untagged x ∷ []
 append_read xs x c n e =
     insert_read xs x [] c (subst (λ z. IsNumbered z c) (sym (append-nil xs)) n)
     (e ∙ ap (λ z. c + length z) (sym (append-nil xs)))
-    ∙ ap (λ z. read z c (length z) ++ peeled x ∷ []) (append-nil xs)
+    ∙ ap (λ z. read z c (length z) ++ untagged x ∷ []) (append-nil xs)
 
 -- of parts with one token in all, the order does not matter
 one_moved : (a p b : List Token) → length (a ++ (p ++ b)) ≡ 1 → (a ++ b) ++ p ≡ a ++ (p ++ b)
@@ -252,21 +252,21 @@ release_numbered xs x ys c n e =
     }
 
 read_next : (xs ys : List Token) (x : Token) (m : ℕ) → length (look (newest_tag x) (xs ++ x ∷ ys)) ≡ 1 →
-    read (xs ++ x ∷ ys) (newest_tag x) (suc m) ≡ peeled x ∷ read (xs ++ ys) (suc (newest_tag x)) m
+    read (xs ++ x ∷ ys) (newest_tag x) (suc m) ≡ untagged x ∷ read (xs ++ ys) (suc (newest_tag x)) m
 unfolding read
 read_next xs ys x m h =
-    let e : look (newest_tag x) (xs ++ x ∷ ys) ≡ look (newest_tag x) xs ++ (peeled x ∷ look (newest_tag x) ys) =
+    let e : look (newest_tag x) (xs ++ x ∷ ys) ≡ look (newest_tag x) xs ++ (untagged x ∷ look (newest_tag x) ys) =
     look_append (newest_tag x) xs (x ∷ ys) ∙ ap (λ z. look (newest_tag x) xs ++ z) (look_here (newest_tag x) x ys refl) in
     ap₂ (λ a b. a ++ b)
-    (e ∙ one_alone (look (newest_tag x) xs) (peeled x) (look (newest_tag x) ys) (ap length (sym e) ∙ h))
+    (e ∙ one_alone (look (newest_tag x) xs) (untagged x) (look (newest_tag x) ys) (ap length (sym e) ∙ h))
     (read_same (xs ++ ys) (xs ++ x ∷ ys) (suc (newest_tag x)) m (λ k f l. without_look k xs x ys (omega (arith, f))))
 
 pub release_read : (xs : List Token) (x : Token) (ys : List Token) (c : ℕ) → IsNumbered (xs ++ x ∷ ys) c → newest_tag x ≡ c →
-    read (xs ++ x ∷ ys) c (length (xs ++ x ∷ ys)) ≡ peeled x ∷ read (xs ++ ys) (suc c) (length (xs ++ ys))
+    read (xs ++ x ∷ ys) c (length (xs ++ x ∷ ys)) ≡ untagged x ∷ read (xs ++ ys) (suc c) (length (xs ++ ys))
 release_read xs x ys c n e =
     ap (read (xs ++ x ∷ ys) c) (without_count xs x ys)
     ∙ subst (λ z. length (look z (xs ++ x ∷ ys)) ≡ 1 →
-    read (xs ++ x ∷ ys) z (suc (length (xs ++ ys))) ≡ peeled x ∷ read (xs ++ ys) (suc z) (length (xs ++ ys))) e
+    read (xs ++ x ∷ ys) z (suc (length (xs ++ ys))) ≡ untagged x ∷ read (xs ++ ys) (suc z) (length (xs ++ ys))) e
     (read_next xs ys x (length (xs ++ ys)))
     (n.once c (omega arith) (omega (arith, without_count xs x ys)))
 

@@ -1,10 +1,10 @@
--- What looks at tags alone says the same of tokens without their outcomes.
+-- Functions that look at tags alone give the same for tokens without their outcomes.
 use Rattle.std.proofs.Common.{◌≡◌, ℕ, zero, suc, ◌+◌, ◌&&◌, inl, inr, nat_eq, nat_le, nat_lt, Bool, true, false, List, [], ◌∷◌, ◌++◌, map, length, refl, sym, ap, ap₂, ◌∙◌}
 use Rattle.std.proofs.lemmas.Bool.{cases_Bool, cond-true, cond-false}
 use Rattle.std.proofs.lemmas.List.{map-append}
 use Rattle.p3l_base.specs.declared.outcome.Outcome.{Outcome}
 use Rattle.p3l_firing.specs.State.{State}
-use Rattle.p3l_firing.specs.Token.{over, newest_tag, peeled}
+use Rattle.p3l_firing.specs.Token.{over, newest_tag, untagged}
 use Rattle.p3l_firing.specs.declared.token.Token.{Token}
 use Rattle.p3l_template.specs.Bag.{look, read, each_once, all_within, numbered}
 use Rattle.p3l_template.specs.Part.{Part, line}
@@ -18,9 +18,9 @@ pub bares-over : (f : Outcome → Outcome) (xs : List Token) → bares (map (ove
 bares-over f [] = refl
 bares-over f (x ∷ xs) = ap (λ z. bare x ∷ z) (bares-over f xs)
 
-pub bares-peeled : (xs : List Token) → bares (map peeled xs) ≡ map peeled (bares xs)
-bares-peeled [] = refl
-bares-peeled (x ∷ xs) = ap (λ z. bare (peeled x) ∷ z) (bares-peeled xs)
+pub bares-untagged : (xs : List Token) → bares (map untagged xs) ≡ map untagged (bares xs)
+bares-untagged [] = refl
+bares-untagged (x ∷ xs) = ap (λ z. bare (untagged x) ∷ z) (bares-untagged xs)
 
 pub bares-length : (xs : List Token) → length (bares xs) ≡ length xs
 bares-length [] = refl
@@ -43,7 +43,7 @@ unfolding look
 look-bare k [] = refl
 look-bare k (x ∷ xs) =
     elim (cases_Bool (nat_eq (newest_tag x) k)) [
-      | inl e ↦ cond-true _ _ _ e ∙ ap (λ z. bare (peeled x) ∷ z) (look-bare k xs) ∙ ap bares (sym (cond-true _ _ _ e))
+      | inl e ↦ cond-true _ _ _ e ∙ ap (λ z. bare (untagged x) ∷ z) (look-bare k xs) ∙ ap bares (sym (cond-true _ _ _ e))
       | inr e ↦ cond-false _ _ _ e ∙ look-bare k xs ∙ ap bares (sym (cond-false _ _ _ e))
     ]
 

@@ -9,7 +9,7 @@ use Rattle.p3l_firing.specs.State.{State}
 use Rattle.p3l_firing.specs.declared.net.Net.{Net}
 use Rattle.p3l_template.specs.Part.{Part, IsLawfulPart, IsInside, IsSameInside, Moves, OneFired, no_part, all_orderly}
 use Rattle.p3l_template.specs.Placed.{AreChained, proc_end, chan_end, AreBelow}
-use Rattle.p3l_template.specs.Shape.{Role, Seat, no_seat}
+use Rattle.p3l_template.specs.Shape.{Role, Slot, no_slot}
 use Rattle.p3l_template.specs.Units.{Units}
 
 -- part v lies after p and c, and before the ends
@@ -20,7 +20,7 @@ pub record Lies (p c pe ce : ℕ) (P : Part) : Type 0 where
   pub chan_to : P.chan_to ≤ ce
 
 module _ (net : Net) (units : Units) (roles : ℕ → Role) where
-  pub chain_length : (p c : ℕ) (xs : List Seat) (Ps : List Part) → AreChained net units roles p c xs Ps →
+  pub chain_length : (p c : ℕ) (xs : List Slot) (Ps : List Part) → AreChained net units roles p c xs Ps →
       length xs ≡ length Ps
   unfolding AreChained
   chain_length p c [] [] h = refl
@@ -29,8 +29,8 @@ module _ (net : Net) (units : Units) (roles : ℕ → Role) where
   chain_length p c (x ∷ xs) [] h = absurd h
 
   -- part v is at ports v, and is lawful
-  pub chain_input : (p c : ℕ) (xs : List Seat) (Ps : List Part) → AreChained net units roles p c xs Ps → (v : ℕ) →
-      v < length Ps → (get_or Ps v no_part).input ≡ (get_or xs v no_seat).input
+  pub chain_input : (p c : ℕ) (xs : List Slot) (Ps : List Part) → AreChained net units roles p c xs Ps → (v : ℕ) →
+      v < length Ps → (get_or Ps v no_part).input ≡ (get_or xs v no_slot).input
   unfolding AreChained
   chain_input p c [] [] h v l = absurd (omega arith)
   chain_input p c (x ∷ xs) (P ∷ Ps) h zero l = h.0.input
@@ -38,8 +38,8 @@ module _ (net : Net) (units : Units) (roles : ℕ → Role) where
   chain_input p c [] (P ∷ Ps) h v l = absurd h
   chain_input p c (x ∷ xs) [] h v l = absurd h
 
-  pub chain_output : (p c : ℕ) (xs : List Seat) (Ps : List Part) → AreChained net units roles p c xs Ps → (v : ℕ) →
-      v < length Ps → (get_or Ps v no_part).output ≡ (get_or xs v no_seat).output
+  pub chain_output : (p c : ℕ) (xs : List Slot) (Ps : List Part) → AreChained net units roles p c xs Ps → (v : ℕ) →
+      v < length Ps → (get_or Ps v no_part).output ≡ (get_or xs v no_slot).output
   unfolding AreChained
   chain_output p c [] [] h v l = absurd (omega arith)
   chain_output p c (x ∷ xs) (P ∷ Ps) h zero l = h.0.output
@@ -47,8 +47,8 @@ module _ (net : Net) (units : Units) (roles : ℕ → Role) where
   chain_output p c [] (P ∷ Ps) h v l = absurd h
   chain_output p c (x ∷ xs) [] h v l = absurd h
 
-  pub chain_meaning : (p c : ℕ) (xs : List Seat) (Ps : List Part) → AreChained net units roles p c xs Ps → (v : ℕ) →
-      v < length Ps → (get_or Ps v no_part).meaning ≡ (roles (get_or xs v no_seat).part).meaning
+  pub chain_meaning : (p c : ℕ) (xs : List Slot) (Ps : List Part) → AreChained net units roles p c xs Ps → (v : ℕ) →
+      v < length Ps → (get_or Ps v no_part).meaning ≡ (roles (get_or xs v no_slot).part).meaning
   unfolding AreChained
   chain_meaning p c [] [] h v l = absurd (omega arith)
   chain_meaning p c (x ∷ xs) (P ∷ Ps) h zero l = h.0.meaning
@@ -56,8 +56,8 @@ module _ (net : Net) (units : Units) (roles : ℕ → Role) where
   chain_meaning p c [] (P ∷ Ps) h v l = absurd h
   chain_meaning p c (x ∷ xs) [] h v l = absurd h
 
-  pub chain_firings : (p c : ℕ) (xs : List Seat) (Ps : List Part) → AreChained net units roles p c xs Ps → (v : ℕ) →
-      v < length Ps → (get_or Ps v no_part).firings ≡ (roles (get_or xs v no_seat).part).firings
+  pub chain_firings : (p c : ℕ) (xs : List Slot) (Ps : List Part) → AreChained net units roles p c xs Ps → (v : ℕ) →
+      v < length Ps → (get_or Ps v no_part).firings ≡ (roles (get_or xs v no_slot).part).firings
   unfolding AreChained
   chain_firings p c [] [] h v l = absurd (omega arith)
   chain_firings p c (x ∷ xs) (P ∷ Ps) h zero l = h.0.firings
@@ -65,7 +65,7 @@ module _ (net : Net) (units : Units) (roles : ℕ → Role) where
   chain_firings p c [] (P ∷ Ps) h v l = absurd h
   chain_firings p c (x ∷ xs) [] h v l = absurd h
 
-  pub chain_lawful : (p c : ℕ) (xs : List Seat) (Ps : List Part) → AreChained net units roles p c xs Ps → (v : ℕ) →
+  pub chain_lawful : (p c : ℕ) (xs : List Slot) (Ps : List Part) → AreChained net units roles p c xs Ps → (v : ℕ) →
       v < length Ps → IsLawfulPart net units (get_or Ps v no_part)
   unfolding AreChained
   chain_lawful p c [] [] h v l = absurd (omega arith)
@@ -74,7 +74,7 @@ module _ (net : Net) (units : Units) (roles : ℕ → Role) where
   chain_lawful p c [] (P ∷ Ps) h v l = absurd h
   chain_lawful p c (x ∷ xs) [] h v l = absurd h
 
-  pub chain_grows : (p c : ℕ) (xs : List Seat) (Ps : List Part) → AreChained net units roles p c xs Ps →
+  pub chain_grows : (p c : ℕ) (xs : List Slot) (Ps : List Part) → AreChained net units roles p c xs Ps →
       (p ≤ proc_end p Ps) × (c ≤ chan_end c Ps)
   unfolding AreChained proc_end chan_end
   chain_grows p c [] [] h = (le_refl p, le_refl c)
@@ -84,7 +84,7 @@ module _ (net : Net) (units : Units) (roles : ℕ → Role) where
   chain_grows p c [] (P ∷ Ps) h = absurd h
   chain_grows p c (x ∷ xs) [] h = absurd h
 
-  pub chain_lies : (p c : ℕ) (xs : List Seat) (Ps : List Part) → AreChained net units roles p c xs Ps → (v : ℕ) →
+  pub chain_lies : (p c : ℕ) (xs : List Slot) (Ps : List Part) → AreChained net units roles p c xs Ps → (v : ℕ) →
       v < length Ps → Lies p c (proc_end p Ps) (chan_end c Ps) (get_or Ps v no_part)
   unfolding AreChained proc_end chan_end
   chain_lies p c [] [] h v l = absurd (omega arith)
@@ -102,7 +102,7 @@ module _ (net : Net) (units : Units) (roles : ℕ → Role) where
   chain_lies p c [] (P ∷ Ps) h v l = absurd h
   chain_lies p c (x ∷ xs) [] h v l = absurd h
 
--- what a firing in P leaves alone in Q, where the two lie apart and P's ports lie below Q's channels
+-- a firing in P leaves the inside of Q alone, if the two lie apart and P's ports lie below Q's channels
 pub apart_same : (P Q : Part) (s t : State) → Moves P s t →
     ((p : ℕ) → Q.proc_from ≤ p → p < Q.proc_to → P.proc_from ≤ p → P.proc_to ≤ p) →
     ((c : ℕ) → Q.chan_from ≤ c → c < Q.chan_to → P.chan_from ≤ c → P.chan_to ≤ c) → P.input < Q.chan_from →
@@ -113,7 +113,7 @@ apart_same P Q s t m ap_procs ap_chans i o = record {
 }
 
 -- of the inner parts, one fires
-pub chain_fires : (net : Net) (units : Units) (roles : ℕ → Role) (low p c : ℕ) (xs : List Seat) (Ps : List Part) →
+pub chain_fires : (net : Net) (units : Units) (roles : ℕ → Role) (low p c : ℕ) (xs : List Slot) (Ps : List Part) →
     AreChained net units roles p c xs Ps → low ≤ c → AreBelow low xs → (s t : State) (q : ℕ) → p ≤ q → q < proc_end p Ps →
     MayFire units.tree units.leaf net s q t → OneFired Ps s t
 unfolding AreChained proc_end AreBelow
@@ -197,7 +197,7 @@ unfolding all_orderly
 all_same [] s t h = refl
 all_same (P ∷ Ps) s t h = ap₂ (λ x y. x && y) (h 0 (omega arith)) (all_same Ps s t (λ v l. h (suc v) (omega arith)))
 
--- where one fired, all stay orderly
+-- all parts stay orderly after a firing of one of them
 pub all_kept : (Ps : List Part) (s t : State) → OneFired Ps s t → all_orderly Ps s ≡ true → all_orderly Ps t ≡ true
 all_kept Ps s t one h =
     all_from Ps t (λ v l. elim (cases_eq v one.which) [

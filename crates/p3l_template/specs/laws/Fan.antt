@@ -14,29 +14,29 @@ use Rattle.p3l_firing.specs.declared.net.Net.{Net}
 use Rattle.p3l_firing.specs.declared.process.ProcKind.{ProcKind}
 use Rattle.p3l_firing.specs.declared.token.Token.{Token}
 use Rattle.p3l_template.specs.Part.{Part, IsLawfulPart, line, IsInside, IsSameInside, IsAlike, Moves, OneFired, IsFresh, Begins, IsDrained, all_orderly, no_part, due}
-use Rattle.p3l_template.specs.Placed.{IsGoodBase, IsGoodSeat, IsLawfulShape, IsPlaced, HaveRoom, AreLaid, AreChained, proc_end, chan_end, AreBelow}
+use Rattle.p3l_template.specs.Placed.{IsGoodBase, IsGoodSlot, IsLawfulShape, IsPlaced, HaveRoom, AreLaid, AreChained, proc_end, chan_end, AreBelow}
 use Rattle.p3l_template.specs.Fan.{Fanned, fan_part, fan_shape}
-use Rattle.p3l_template.specs.Shape.{Role, Base, no_seat, fan_seats}
+use Rattle.p3l_template.specs.Shape.{Role, Base, no_slot, fan_slots}
 use Rattle.p3l_template.specs.Units.{Units}
 use Rattle.p3l_template.specs.laws.Chain.{all_at, chain_fires, chain_lies, chain_lawful, chain_input, chain_output, chain_meaning, chain_firings, chain_length, chain_grows, Lies}
 use Rattle.p3l_template.specs.laws.Plain.{plain_empty, plain_room}
 use Rattle.p3l_template.specs.laws.Rows.{room_when_empty}
 
-pub fan_length : (i o n : ℕ) → length (fan_seats i o n) ≡ n
-unfolding fan_seats
+pub fan_length : (i o n : ℕ) → length (fan_slots i o n) ≡ n
+unfolding fan_slots
 fan_length i o zero = refl
 fan_length i o (suc n) = ap suc (fan_length (suc i) (suc o) n)
 
 pub fan_at : (i o n w : ℕ) → w < n →
-    get_or (fan_seats i o n) w no_seat ≡ record { input = i + w; output = o + w; part = 0 }
-unfolding fan_seats
+    get_or (fan_slots i o n) w no_slot ≡ record { input = i + w; output = o + w; part = 0 }
+unfolding fan_slots
 fan_at i o zero w l = absurd (omega arith)
 fan_at i o (suc n) zero l = ap₂ (λ x y. record { input = x; output = y; part = 0 }) (omega arith) (omega arith)
 fan_at i o (suc n) (suc w) l =
     fan_at (suc i) (suc o) n w (omega arith)
     ∙ ap₂ (λ x y. record { input = x; output = y; part = 0 }) (omega arith) (omega arith)
 
-pub fan_low : (c n : ℕ) → AreBelow (c + (n + n)) (fan_seats c (c + n) n)
+pub fan_low : (c n : ℕ) → AreBelow (c + (n + n)) (fan_slots c (c + n) n)
 unfolding AreBelow
 fan_low c n v l =
     let k : v < n = omega (arith, fan_length c (c + n) n) in
@@ -46,9 +46,9 @@ fan_low c n v l =
     )
 
 pub fan_good : (base : Base) (n v : ℕ) → 0 < n → v < n →
-    IsGoodSeat base (n + n) (get_or (fan_seats base.chan (base.chan + n) n) v no_seat)
+    IsGoodSlot base (n + n) (get_or (fan_slots base.chan (base.chan + n) n) v no_slot)
 fan_good base n v pos l =
-    subst (IsGoodSeat base (n + n)) (sym (fan_at base.chan (base.chan + n) n v l))
+    subst (IsGoodSlot base (n + n)) (sym (fan_at base.chan (base.chan + n) n v l))
     (record {
       input = omega (arith, l);
       output = omega (arith, l);
@@ -74,7 +74,7 @@ pub record Spread (net : Net) (units : Units) (roles : ℕ → Role) (n : ℕ) (
 
 module _ (net : Net) (units : Units) (roles : ℕ → Role) (n : ℕ) (base : Base) (Ps : List Part) where
   spread_of : AreChained net units roles (base.proc + 2) (base.chan + (n + n))
-      (fan_seats base.chan (base.chan + n) n) Ps → Spread net units roles n base Ps
+      (fan_slots base.chan (base.chan + n) n) Ps → Spread net units roles n base Ps
   spread_of h =
       let g = chain_grows net units roles (base.proc + 2) (base.chan + (n + n)) _ Ps h in
       let e : length Ps ≡ n =
@@ -201,7 +201,7 @@ module _ (net : Net) (units : Units) (roles : ℕ → Role) (n : ℕ) (base : Ba
 pub record Fan (net : Net) (units : Units) (roles : ℕ → Role) (n : ℕ) (base : Base) (Ps : List Part) : Type 0 where
   pub all : Spread net units roles n base Ps
   pub chained : AreChained net units roles (base.proc + 2) (base.chan + (n + n))
-      (fan_seats base.chan (base.chan + n) n) Ps
+      (fan_slots base.chan (base.chan + n) n) Ps
   pub line_is : (t : State) (w : ℕ) (d p b : List Token) → w < n → t.tokens (base.chan + n + w) ≡ d →
       (get_or Ps w no_part).pending t ≡ p → t.tokens (base.chan + w) ≡ b →
       line (get_or Ps w no_part) t ≡ d ++ (p ++ map (over (roles 0).meaning) b)
@@ -228,7 +228,7 @@ pub record Fan (net : Net) (units : Units) (roles : ℕ → Role) (n : ℕ) (bas
 
 pub fan_of : (net : Net) (units : Units) (roles : ℕ → Role) (n : ℕ) (base : Base) (Ps : List Part) → IsGoodBase net base →
     AreChained net units roles (base.proc + 2) (base.chan + (n + n))
-    (fan_seats base.chan (base.chan + n) n) Ps → Fan net units roles n base Ps
+    (fan_slots base.chan (base.chan + n) n) Ps → Fan net units roles n base Ps
 fan_of net units roles n base Ps good h =
     let a = spread_of net units roles n base Ps h in
     record {
@@ -306,7 +306,7 @@ module _ (net : Net) (units : Units) (roles : ℕ → Role) (n : ℕ) (base : Ba
       ∙ subst (λ z. at_first net z ≡ []) (omega (arith, f))
       (plain_empty net base.chan (n + n) cap laid (c - base.chan) (omega (arith, f, l)))
 
-  -- what holds after a firing of each of the two processes and of each worker holds after every firing inside
+  -- a property holds after every firing inside, if it does after each firing of the two processes and of each worker
   pub fan_fires : (s t : State) (p : ℕ) → IsInside P p → MayFire units.tree units.leaf net s p t → (A : Type 0) →
       (MayFire units.tree units.leaf net s base.proc t → A) →
       (MayFire units.tree units.leaf net s (base.proc + 1) t → A) → (OneFired Ps s t → A) → A
@@ -321,14 +321,14 @@ module _ (net : Net) (units : Units) (roles : ℕ → Role) (n : ℕ) (base : Ba
         ]
       ]
 
-  -- where nothing inside can fire, nothing is left in a worker that has room after it
+  -- a worker that has room after it is drained, if nothing inside can fire
   pub fan_drained : (s : State) → HaveRoom net base.chan (n + n) → all_orderly Ps s ≡ true →
       ((p : ℕ) → IsInside P p → can_fire units.tree net s p ≡ false) → has_trap s.emitted ≡ false → (w : ℕ) → w < n →
       s.tokens (base.chan + n + w) ≡ [] → IsDrained (get_or Ps w no_part) s
-  fan_drained s have orderly quiet calm w l e =
+  fan_drained s have orderly quiet untrapped w l e =
       let y = fan.all.lies w l in
       (fan.all.lawful w l).drain s (all_at Ps s orderly w (fan.all.within w l))
-      (λ p i. quiet p (record { from = omega (arith, i.from, y.proc_from); to = omega (arith, i.to, y.proc_to) })) calm
+      (λ p i. quiet p (record { from = omega (arith, i.from, y.proc_from); to = omega (arith, i.to, y.proc_to) })) untrapped
       (room_when_empty net s _ (ap s.tokens (fan.all.output w l) ∙ e)
       (subst (λ z. 0 < (chan_at net z).cap) (sym (fan.all.output w l)) (have.room _ (omega arith) (omega (arith, l)))))
 
@@ -354,5 +354,5 @@ fan_lawful first last node n fanned pos lawful = record {
   count = λ base. fan_length base.chan (base.chan + n) n;
   laid = λ cap base. length-replicate (n + n) (empty_chan cap);
   rooms = λ cap base k h l. plain_room (n + n) cap k h l;
-  seats = λ net base good v l. fan_good base n v pos l;
+  slots = λ net base good v l. fan_good base n v pos l;
 }

@@ -9,8 +9,8 @@ use Rattle.p3l_firing.specs.Process.{times}
 use Rattle.p3l_firing.specs.Typed.{FitsKind}
 use Rattle.p3l_firing.specs.Widths.{Widths, Carries, AllCarry}
 use Rattle.p3l_template.specs.Fan.{Fanned, first_proc, last_proc, fan_shape}
-use Rattle.p3l_template.specs.Shape.{Base, numbers_from, fan_seats}
-use Rattle.p3l_template.specs.Typing.{IsTypedShape, IsInner, SeatFits, Carry, seat_ins, seat_outs}
+use Rattle.p3l_template.specs.Shape.{Base, numbers_from, fan_slots}
+use Rattle.p3l_template.specs.Typing.{IsTypedShape, IsInner, SlotFits, Carry, slot_ins, slot_outs}
 use Rattle.p3l_template.specs.Width.{no_width, worker_widths}
 use Rattle.p3l_template.specs.declared.width.Width.{Width}
 use Rattle.p3l_template.specs.laws.Fan.{fan_at, fan_length}
@@ -73,10 +73,10 @@ module _ (w : Widths) (c n : ℕ) (a b : Width) (own : Carry w c (worker_widths 
   row_out = all_numbers (λ d. Carries w d b.words b.tags) (c + n) n out_at
 
 pub fan_reads : (c input i n : ℕ) →
-    times c ((input ∷ (numbers_from (i + n) n ++ [])) ++ seat_ins (fan_seats i (i + n) n))
+    times c ((input ∷ (numbers_from (i + n) n ++ [])) ++ slot_ins (fan_slots i (i + n) n))
     ≡ times c (input ∷ numbers_from i (n + n))
 fan_reads c input i n =
-    let a = times_append c (input ∷ (numbers_from (i + n) n ++ [])) (seat_ins (fan_seats i (i + n) n)) in
+    let a = times_append c (input ∷ (numbers_from (i + n) n ++ [])) (slot_ins (fan_slots i (i + n) n)) in
     let b = times_cons c input (numbers_from (i + n) n ++ []) in
     let d = ap (times c) (append-nil (numbers_from (i + n) n)) in
     let e = ap (times c) (fan_ins i (i + n) n) in
@@ -85,10 +85,10 @@ fan_reads c input i n =
     omega (arith, a, b, d, e, f, g)
 
 pub fan_writes : (c output i n : ℕ) →
-    times c ((numbers_from i n ++ (output ∷ [])) ++ seat_outs (fan_seats i (i + n) n))
+    times c ((numbers_from i n ++ (output ∷ [])) ++ slot_outs (fan_slots i (i + n) n))
     ≡ times c (output ∷ numbers_from i (n + n))
 fan_writes c output i n =
-    let a = times_append c (numbers_from i n ++ (output ∷ [])) (seat_outs (fan_seats i (i + n) n)) in
+    let a = times_append c (numbers_from i n ++ (output ∷ [])) (slot_outs (fan_slots i (i + n) n)) in
     let b = times_append c (numbers_from i n) (output ∷ []) in
     let e = ap (times c) (fan_outs i (i + n) n) in
     let f = times_cons c output (numbers_from i (n + n)) in
@@ -122,9 +122,9 @@ fan_typed tree node n first last fanned x y deeper few in_first in_last takes gi
           let both = fits w base t s.input s.output (row_in w base.chan n (a t) (b t) s.own)
           (row_out w base.chan n (a t) (b t) s.own) in
           (both.0, (both.1, tt));
-      seats = λ w base t s v l.
+      slots = λ w base t s v l.
           let k : v < n = omega (arith, l, fan_length base.chan (base.chan + n) n) in
-          subst (SeatFits tree node w (t + deeper)) (sym (fan_at base.chan (base.chan + n) n v k))
+          subst (SlotFits tree node w (t + deeper)) (sym (fan_at base.chan (base.chan + n) n v k))
           (record {
             input = subst (λ z. Carries w (base.chan + v) z (t + deeper)) (sym takes)
                 (in_at w base.chan n (a t) (b t) s.own v k);

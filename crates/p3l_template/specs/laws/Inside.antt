@@ -1,6 +1,6 @@
--- How many tokens are inside. Intervals of channels and processes split (`channels_from`, `hands_from`), sums over
--- channels and over parts are the same counts (`channels_sum`, `insides_sum`), and round inner parts
--- there is what they hold and what is in the channels and with the processes before them (`around_inside`).
+-- Numbers of tokens inside parts. Intervals of channels and processes split (`channels_from`, `hands_from`), and sums over
+-- channels and over parts are the same counts (`channels_sum`, `insides_sum`). A template with inner parts holds the tokens of
+-- these parts, those in its channels and those of the processes before them (`around_inside`).
 use Rattle.std.proofs.Common.{◌≡◌, ℕ, zero, suc, ◌+◌, ◌-◌, ◌*◌, ◌≤◌, List, [], ◌∷◌, length, sym, ap, ap₂, ◌∙◌, arith, length-append, get_or, refl}
 use Rattle.std.proofs.lemmas.List.{length-map}
 use Rattle.p3l_firing.specs.State.{State}
@@ -8,7 +8,7 @@ use Rattle.p3l_firing.specs.Token.{over}
 use Rattle.p3l_firing.specs.declared.net.Net.{Net}
 use Rattle.p3l_template.specs.Part.{Part, line, in_channels, in_hands, inside, no_part}
 use Rattle.p3l_template.specs.Placed.{AreChained, proc_end, chan_end}
-use Rattle.p3l_template.specs.Shape.{Role, Seat}
+use Rattle.p3l_template.specs.Shape.{Role, Slot}
 use Rattle.p3l_template.specs.Sum.{sum_of}
 use Rattle.p3l_template.specs.Units.{Units}
 use Rattle.p3l_template.specs.laws.Chain.{chain_grows}
@@ -78,7 +78,7 @@ insides_sum (P ∷ Ps) s = let r = insides_sum Ps s in
 
 module _ (net : Net) (units : Units) (roles : ℕ → Role) where
   -- the inner parts hold all that is from the first to the end
-  pub chain_inside : (p c : ℕ) (xs : List Seat) (Ps : List Part) → AreChained net units roles p c xs Ps → (s : State) →
+  pub chain_inside : (p c : ℕ) (xs : List Slot) (Ps : List Part) → AreChained net units roles p c xs Ps → (s : State) →
       in_channels s c (chan_end c Ps - c) + in_hands s p (proc_end p Ps - p) ≡ insides Ps s
   unfolding AreChained proc_end chan_end in_channels in_hands insides inside
   chain_inside p c [] [] h s =
@@ -97,7 +97,7 @@ module _ (net : Net) (units : Units) (roles : ℕ → Role) where
   chain_inside p c (x ∷ xs) [] h s = absurd h
 
   -- with j processes and k channels before them
-  pub around_inside : (p c j k : ℕ) (xs : List Seat) (Ps : List Part) →
+  pub around_inside : (p c j k : ℕ) (xs : List Slot) (Ps : List Part) →
       AreChained net units roles (p + j) (c + k) xs Ps → (s : State) →
       in_channels s c (chan_end (c + k) Ps - c) + in_hands s p (proc_end (p + j) Ps - p)
       ≡ (in_channels s c k + in_hands s p j) + insides Ps s

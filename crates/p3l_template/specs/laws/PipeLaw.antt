@@ -14,9 +14,9 @@ use Rattle.p3l_firing.specs.Token.{over, has_trap}
 use Rattle.p3l_firing.specs.declared.net.Net.{Net}
 use Rattle.p3l_firing.specs.declared.token.Token.{Token}
 use Rattle.p3l_template.specs.Part.{Part, IsLawfulPart, IsSized, in_channels, in_hands, inside, line, IsInside, IsSameInside, IsAlike, Moves, Keeps, OneFired, no_part, all_orderly, IsFresh, Begins, IsDrained, due}
-use Rattle.p3l_template.specs.Pipe.{stage_seats, through, meaning_from, stages_pending, pipe_pending, all_firings, firings_from, stages_due, pipe_part, pipe_shape}
-use Rattle.p3l_template.specs.Placed.{IsLawfulShape, IsGoodSeat, IsPlaced, AreChained, proc_end, chan_end, AreBelow}
-use Rattle.p3l_template.specs.Shape.{Role, Base, no_seat}
+use Rattle.p3l_template.specs.Pipe.{stage_slots, through, meaning_from, stages_pending, pipe_pending, all_firings, firings_from, stages_due, pipe_part, pipe_shape}
+use Rattle.p3l_template.specs.Placed.{IsLawfulShape, IsGoodSlot, IsPlaced, AreChained, proc_end, chan_end, AreBelow}
+use Rattle.p3l_template.specs.Shape.{Role, Base, no_slot}
 use Rattle.p3l_template.specs.Units.{Units}
 use Rattle.p3l_template.specs.laws.Chain.{chain_fires, chain_lies, chain_lawful, chain_input, chain_output, chain_length, chain_grows, Lies, all_same, all_kept, all_at, all_from}
 use Rattle.p3l_template.specs.laws.Inside.{insides, around_inside, times_le, line_length}
@@ -95,35 +95,35 @@ flow_fired s t x up (P ∷ Ps) (suc w) h l e p o f =
     (λ n. o 0 (omega arith) (omega arith) (omega arith))
 
 -- the ports of the stages
-ports_length : (u x c y k : ℕ) → length (stage_seats u x c y k) ≡ suc k
-unfolding stage_seats
+ports_length : (u x c y k : ℕ) → length (stage_slots u x c y k) ≡ suc k
+unfolding stage_slots
 ports_length u x c y zero = refl
 ports_length u x c y (suc k) = ap suc (ports_length (suc u) c (suc c) y k)
 
-first_in : (u x c y k : ℕ) → (get_or (stage_seats u x c y k) 0 no_seat).input ≡ x
-unfolding stage_seats
+first_in : (u x c y k : ℕ) → (get_or (stage_slots u x c y k) 0 no_slot).input ≡ x
+unfolding stage_slots
 first_in u x c y zero = refl
 first_in u x c y (suc k) = refl
 
-next_in : (u x c y k v : ℕ) → v < k → (get_or (stage_seats u x c y k) (suc v) no_seat).input ≡ c + v
-unfolding stage_seats
+next_in : (u x c y k v : ℕ) → v < k → (get_or (stage_slots u x c y k) (suc v) no_slot).input ≡ c + v
+unfolding stage_slots
 next_in u x c y zero v l = absurd (omega arith)
 next_in u x c y (suc k) zero l = first_in (suc u) c (suc c) y k ∙ omega arith
 next_in u x c y (suc k) (suc v) l = next_in (suc u) c (suc c) y k v (omega arith) ∙ omega arith
 
-mid_out : (u x c y k v : ℕ) → v < k → (get_or (stage_seats u x c y k) v no_seat).output ≡ c + v
-unfolding stage_seats
+mid_out : (u x c y k v : ℕ) → v < k → (get_or (stage_slots u x c y k) v no_slot).output ≡ c + v
+unfolding stage_slots
 mid_out u x c y zero v l = absurd (omega arith)
 mid_out u x c y (suc k) zero l = omega arith
 mid_out u x c y (suc k) (suc v) l = mid_out (suc u) c (suc c) y k v (omega arith) ∙ omega arith
 
-last_port : (u x c y k : ℕ) → (get_or (stage_seats u x c y k) k no_seat).output ≡ y
-unfolding stage_seats
+last_port : (u x c y k : ℕ) → (get_or (stage_slots u x c y k) k no_slot).output ≡ y
+unfolding stage_slots
 last_port u x c y zero = refl
 last_port u x c y (suc k) = last_port (suc u) c (suc c) y k
 
-ports_low : (u x c y k : ℕ) → x < c + k → y < c + k → AreBelow (c + k) (stage_seats u x c y k)
-unfolding AreBelow stage_seats
+ports_low : (u x c y k : ℕ) → x < c + k → y < c + k → AreBelow (c + k) (stage_slots u x c y k)
+unfolding AreBelow stage_slots
 ports_low u x c y zero h i = elim [ zero ↦ λ l. (h, i) | suc v ↦ λ l. absurd (omega arith) ]
 ports_low u x c y (suc k) h i = elim [
   | zero ↦ λ l. (h, omega arith)
@@ -134,8 +134,8 @@ ports_low u x c y (suc k) h i = elim [
 
 module _ (net : Net) (units : Units) (roles : ℕ → Role) where
   ports_linked : (u p c x d y k : ℕ) (Ps : List Part) →
-      AreChained net units roles p c (stage_seats u x d y k) Ps → Linked x Ps
-  unfolding AreChained stage_seats Linked
+      AreChained net units roles p c (stage_slots u x d y k) Ps → Linked x Ps
+  unfolding AreChained stage_slots Linked
   ports_linked u p c x d y zero [] h = absurd h
   ports_linked u p c x d y zero (P ∷ Ps) h = (
     h.0.input,
@@ -150,9 +150,9 @@ module _ (net : Net) (units : Units) (roles : ℕ → Role) where
     subst (λ z. Linked z Ps) (sym h.0.output) (ports_linked (suc u) P.proc_to P.chan_to d (suc d) y k Ps h.1),
   )
 
-  ports_last : (u p c x d y k : ℕ) (Ps : List Part) → AreChained net units roles p c (stage_seats u x d y k) Ps →
+  ports_last : (u p c x d y k : ℕ) (Ps : List Part) → AreChained net units roles p c (stage_slots u x d y k) Ps →
       last_out x Ps ≡ y
-  unfolding AreChained stage_seats last_out
+  unfolding AreChained stage_slots last_out
   ports_last u p c x d y zero [] h = absurd h
   ports_last u p c x d y zero (P ∷ Ps) h =
       elim Ps as (λ Qs. AreChained net units roles P.proc_to P.chan_to [] Qs → last_out P.output Qs ≡ y) [
@@ -164,8 +164,8 @@ module _ (net : Net) (units : Units) (roles : ℕ → Role) where
       ap (λ z. last_out z Ps) h.0.output ∙ ports_last (suc u) P.proc_to P.chan_to d (suc d) y k Ps h.1
 
 pipe_means : (net : Net) (units : Units) (roles : ℕ → Role) (u p c x d y k : ℕ) (Ps : List Part) →
-    AreChained net units roles p c (stage_seats u x d y k) Ps → (o : Outcome) → through Ps o ≡ meaning_from roles u k o
-unfolding AreChained stage_seats through meaning_from
+    AreChained net units roles p c (stage_slots u x d y k) Ps → (o : Outcome) → through Ps o ≡ meaning_from roles u k o
+unfolding AreChained stage_slots through meaning_from
 pipe_means net units roles u p c x d y zero [] h o = absurd h
 pipe_means net units roles u p c x d y zero (P ∷ Ps) h o =
     elim Ps as
@@ -179,28 +179,28 @@ pipe_means net units roles u p c x d y (suc k) (P ∷ Ps) h o =
     ∙ pipe_means net units roles (suc u) P.proc_to P.chan_to d (suc d) y k Ps h.1 ((roles u).meaning o)
 
 pipe_meaning : (net : Net) (units : Units) (roles : ℕ → Role) (u p c x d y k : ℕ) (Ps : List Part) →
-    AreChained net units roles p c (stage_seats u x d y k) Ps → through Ps ≡ meaning_from roles u k
+    AreChained net units roles p c (stage_slots u x d y k) Ps → through Ps ≡ meaning_from roles u k
 pipe_meaning net units roles u p c x d y k Ps h = fun_ext (pipe_means net units roles u p c x d y k Ps h)
 
 in_exact : (u x c y k w : ℕ) → w < suc k →
-    ((w ≡ 0) × ((get_or (stage_seats u x c y k) w no_seat).input ≡ x))
-    ⊎ ((0 < w) × (suc (get_or (stage_seats u x c y k) w no_seat).input ≡ c + w))
+    ((w ≡ 0) × ((get_or (stage_slots u x c y k) w no_slot).input ≡ x))
+    ⊎ ((0 < w) × (suc (get_or (stage_slots u x c y k) w no_slot).input ≡ c + w))
 in_exact u x c y k zero l = inl (refl, first_in u x c y k)
 in_exact u x c y k (suc w) l = inr (omega arith, ap suc (next_in u x c y k w (omega arith)) ∙ omega arith)
 
 out_exact : (u x c y k v : ℕ) → v < suc k →
-    ((v < k) × ((get_or (stage_seats u x c y k) v no_seat).output ≡ c + v))
-    ⊎ ((v ≡ k) × ((get_or (stage_seats u x c y k) v no_seat).output ≡ y))
+    ((v < k) × ((get_or (stage_slots u x c y k) v no_slot).output ≡ c + v))
+    ⊎ ((v ≡ k) × ((get_or (stage_slots u x c y k) v no_slot).output ≡ y))
 out_exact u x c y k v l =
     elim (cases_lt v k) [
       | inl e ↦ inl (e, mid_out u x c y k v e)
       | inr e ↦ let eq : v ≡ k = omega arith in
-          inr (eq, ap (λ z. (get_or (stage_seats u x c y k) z no_seat).output) eq ∙ last_port u x c y k)
+          inr (eq, ap (λ z. (get_or (stage_slots u x c y k) z no_slot).output) eq ∙ last_port u x c y k)
     ]
 
 pipe_firings : (net : Net) (units : Units) (roles : ℕ → Role) (u p c x d y k : ℕ) (Ps : List Part) →
-    AreChained net units roles p c (stage_seats u x d y k) Ps → all_firings Ps ≡ firings_from roles u k
-unfolding AreChained stage_seats all_firings firings_from
+    AreChained net units roles p c (stage_slots u x d y k) Ps → all_firings Ps ≡ firings_from roles u k
+unfolding AreChained stage_slots all_firings firings_from
 pipe_firings net units roles u p c x d y zero [] h = absurd h
 pipe_firings net units roles u p c x d y zero (P ∷ Ps) h =
     elim Ps as (λ Qs. AreChained net units roles P.proc_to P.chan_to [] Qs →
@@ -212,7 +212,7 @@ pipe_firings net units roles u p c x d y (suc k) [] h = absurd h
 pipe_firings net units roles u p c x d y (suc k) (P ∷ Ps) h =
     ap₂ (λ f g. f + g) h.0.firings (pipe_firings net units roles (suc u) P.proc_to P.chan_to d (suc d) y k Ps h.1)
 
--- what the stages still need
+-- the firings that the stages still need
 due_shift : (s : State) (a b : ℕ) (Ps : List Part) → stages_due s (a + b) Ps ≡ all_firings Ps * a + stages_due s b Ps
 unfolding stages_due all_firings
 due_shift s a b [] = omega arith
@@ -350,9 +350,9 @@ entered s [] = 0
 entered s (P ∷ Ps) = (length (s.tokens P.input) + inside P s) + entered s Ps
 
 entered_ports : (net : Net) (units : Units) (roles : ℕ → Role) (u p c d y k : ℕ) (x : ℕ) (Ps : List Part) →
-    AreChained net units roles p c (stage_seats u x d y k) Ps → (s : State) →
+    AreChained net units roles p c (stage_slots u x d y k) Ps → (s : State) →
     entered s Ps ≡ length (s.tokens x) + (in_channels s d k + insides Ps s)
-unfolding AreChained stage_seats entered in_channels insides
+unfolding AreChained stage_slots entered in_channels insides
 entered_ports net units roles u p c d y zero x [] h s = absurd h
 entered_ports net units roles u p c d y zero x (P ∷ []) h s = let e = ap (λ z. length (s.tokens z)) h.0.input in
     omega (arith, e)
@@ -423,7 +423,7 @@ pipe_pending_bound s (P ∷ Ps) t h x l e =
 module _ (net : Net) (units : Units) (roles : ℕ → Role) (k : ℕ) (base : Base) (Ps : List Part)
     (placed : IsPlaced net units roles (pipe_shape k) base Ps) where
   pipe_chain : AreChained net units roles (base.proc + 0) (base.chan + k)
-      (stage_seats 0 base.input base.chan base.output k) Ps
+      (stage_slots 0 base.input base.chan base.output k) Ps
   pipe_chain = placed.inner
 
   pipe_length : length Ps ≡ suc k
@@ -557,7 +557,7 @@ module _ (net : Net) (units : Units) (roles : ℕ → Role) (k : ℕ) (base : Ba
         emitted = one.moves.emitted;
       }
 
-  -- what stage one.which leaves alone among the channels of the pipe
+  -- a firing of stage one.which leaves the other channels of the pipe alone
   pipe_quiet : (s t : State) (one : OneFired Ps s t) (c : ℕ) → c < base.chan + k →
       c ≢ (get_or Ps one.which no_part).input → c ≢ (get_or Ps one.which no_part).output → t.tokens c ≡ s.tokens c
   pipe_quiet s t one c l i o =
@@ -642,7 +642,7 @@ module _ (net : Net) (units : Units) (roles : ℕ → Role) (k : ℕ) (base : Ba
   -- from the last stage back
   module _ (s : State) (h : all_orderly Ps s ≡ true)
       (quiet : (p : ℕ) → IsInside (pipe_part k base Ps) p → can_fire units.tree net s p ≡ false)
-      (calm : has_trap s.emitted ≡ false) where
+      (untrapped : has_trap s.emitted ≡ false) where
     drained_if : (v : ℕ) → v < length Ps → has_room net s (get_or Ps v no_part).output ≡ true →
         IsDrained (get_or Ps v no_part) s
     drained_if v l room =
@@ -650,7 +650,7 @@ module _ (net : Net) (units : Units) (roles : ℕ → Role) (k : ℕ) (base : Ba
         (chain_lawful net units roles (base.proc + 0) (base.chan + k) _ Ps pipe_chain v l).drain s
         (all_at Ps s h v l)
         (λ p i. quiet p
-        (record { from = omega (arith, i.from, y.proc_from); to = omega (arith, i.to, y.proc_to) })) calm room
+        (record { from = omega (arith, i.from, y.proc_from); to = omega (arith, i.to, y.proc_to) })) untrapped room
 
     stage_drained : has_room net s base.output ≡ true → (j v : ℕ) → v + j ≡ k → IsDrained (get_or Ps v no_part) s
     stage_drained room zero v e =
@@ -718,11 +718,11 @@ module _ (net : Net) (units : Units) (roles : ℕ → Role) (k : ℕ) (base : Ba
         step = λ s t p inside way h. pipe_keeps s t (pipe_one s t p inside way) h;
         work = λ s t p inside way h. pipe_works s t (pipe_one s t p inside way) h;
         size = pipe_size;
-        drain = λ s h quiet calm room. pipe_drained s h quiet calm room;
+        drain = λ s h quiet untrapped room. pipe_drained s h quiet untrapped room;
       }
 
 pipe_ports : (base : Base) (k v : ℕ) → base.input < base.chan → base.output < base.chan → base.input ≢ base.output →
-    v < suc k → IsGoodSeat base k (get_or (stage_seats 0 base.input base.chan base.output k) v no_seat)
+    v < suc k → IsGoodSlot base k (get_or (stage_slots 0 base.input base.chan base.output k) v no_slot)
 pipe_ports base k v i o n l =
     let x = in_exact 0 base.input base.chan base.output k v l in
     let y = out_exact 0 base.input base.chan base.output k v l in
@@ -757,5 +757,5 @@ pipe_lawful k = record {
   count = λ base. ports_length 0 base.input base.chan base.output k;
   laid = λ cap base. length-replicate k (empty_chan cap);
   rooms = λ cap base j h l. plain_room k cap j h l;
-  seats = λ net base good v l. pipe_ports base k v good.input good.output good.apart l;
+  slots = λ net base good v l. pipe_ports base k v good.input good.output good.apart l;
 }

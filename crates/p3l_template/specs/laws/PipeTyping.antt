@@ -6,9 +6,9 @@ use Rattle.p3l_skel.specs.Tree.{node_at, part_at}
 use Rattle.p3l_skel.specs.Lawful.{IsChain}
 use Rattle.p3l_firing.specs.Process.{times}
 use Rattle.p3l_firing.specs.Widths.{Widths, Carries}
-use Rattle.p3l_template.specs.Pipe.{pipe_shape, stage_seats}
-use Rattle.p3l_template.specs.Shape.{numbers_from, no_seat}
-use Rattle.p3l_template.specs.Typing.{IsTypedShape, IsPipeNode, Carry, seat_ins, seat_outs}
+use Rattle.p3l_template.specs.Pipe.{pipe_shape, stage_slots}
+use Rattle.p3l_template.specs.Shape.{numbers_from, no_slot}
+use Rattle.p3l_template.specs.Typing.{IsTypedShape, IsPipeNode, Carry, slot_ins, slot_outs}
 use Rattle.p3l_template.specs.Width.{no_width, outs_width, stage_widths}
 use Rattle.p3l_template.specs.declared.width.Width.{Width}
 use Rattle.p3l_template.specs.laws.Plain.{plain_credits}
@@ -34,29 +34,29 @@ widths_tags tree t (p ∷ []) k = omega arith
 widths_tags tree t (p ∷ (q ∷ ps)) zero = omega arith
 widths_tags tree t (p ∷ (q ∷ ps)) (suc k) = widths_tags tree t (q ∷ ps) k
 
-stages_in : (u x c y k : ℕ) → seat_ins (stage_seats u x c y k) ≡ x ∷ numbers_from c k
-unfolding stage_seats numbers_from
+stages_in : (u x c y k : ℕ) → slot_ins (stage_slots u x c y k) ≡ x ∷ numbers_from c k
+unfolding stage_slots numbers_from
 stages_in u x c y zero = refl
 stages_in u x c y (suc k) = ap (λ z. x ∷ z) (stages_in (suc u) c (suc c) y k)
 
-stages_out : (u x c y k : ℕ) → seat_outs (stage_seats u x c y k) ≡ numbers_from c k ++ y ∷ []
-unfolding stage_seats numbers_from
+stages_out : (u x c y k : ℕ) → slot_outs (stage_slots u x c y k) ≡ numbers_from c k ++ y ∷ []
+unfolding stage_slots numbers_from
 stages_out u x c y zero = refl
 stages_out u x c y (suc k) = ap (λ z. c ∷ z) (stages_out (suc u) c (suc c) y k)
 
-pub stages_length : (u x c y k : ℕ) → length (stage_seats u x c y k) ≡ suc k
-unfolding stage_seats
+pub stages_length : (u x c y k : ℕ) → length (stage_slots u x c y k) ≡ suc k
+unfolding stage_slots
 stages_length u x c y zero = refl
 stages_length u x c y (suc k) = ap suc (stages_length (suc u) c (suc c) y k)
 
-pub stage_part : (u x c y k v : ℕ) → v < suc k → (get_or (stage_seats u x c y k) v no_seat).part ≡ u + v
-unfolding stage_seats
+pub stage_part : (u x c y k v : ℕ) → v < suc k → (get_or (stage_slots u x c y k) v no_slot).part ≡ u + v
+unfolding stage_slots
 stage_part u x c y zero zero l = omega arith
 stage_part u x c y zero (suc v) l = absurd (omega arith)
 stage_part u x c y (suc k) zero l = omega arith
 stage_part u x c y (suc k) (suc v) l = stage_part (suc u) c (suc c) y k v (omega arith) ∙ omega arith
 
--- the channels at a seat carry the words of its stage
+-- the channels at a slot carry the words of its stage
 record Fits (tree : Tree) (w : Widths) (t part i o : ℕ) : Type 0 where
   input : Carries w i (node_at tree part).ins t
   output : Carries w o (node_at tree part).outs t
@@ -70,9 +70,9 @@ later w c x xs h = λ k l.
 module _ (tree : Tree) (w : Widths) (t : ℕ) where
   stage_fits : (u x c y k : ℕ) (i o : ℕ) (ps : List ℕ) → length ps ≡ suc k → IsChain tree i o ps → Carries w x i t →
       Carries w y o t → Carry w c (behind_stages tree t ps) → (v : ℕ) → v < suc k →
-      Fits tree w t (get_or ps v 0) (get_or (stage_seats u x c y k) v no_seat).input
-      (get_or (stage_seats u x c y k) v no_seat).output
-  unfolding stage_seats behind_stages Carry
+      Fits tree w t (get_or ps v 0) (get_or (stage_slots u x c y k) v no_slot).input
+      (get_or (stage_slots u x c y k) v no_slot).output
+  unfolding stage_slots behind_stages Carry
   stage_fits u x c y k i o [] e chain a b h v l = absurd (omega arith)
   stage_fits u x c y zero i o (p ∷ []) e chain a b h zero l = record {
     input = subst (λ z. Carries w x z t) (sym chain.1) a;
@@ -109,21 +109,21 @@ pipe_typed tree node k e chain = record {
       omega (arith, a, b, d);
   inner = λ base. tt;
   procs = λ w base t s. tt;
-  seats = λ w base t s v l.
+  slots = λ w base t s v l.
       let j : v < suc k = omega (arith, l, stages_length 0 base.input base.chan base.output k) in
       let f = stage_fits tree w t 0 base.input base.chan base.output k _ _ (node_at tree node).parts e chain s.input s.output
       s.own v j in
-      let part : (get_or (stage_seats 0 base.input base.chan base.output k) v no_seat).part ≡ v =
+      let part : (get_or (stage_slots 0 base.input base.chan base.output k) v no_slot).part ≡ v =
       stage_part 0 base.input base.chan base.output k v j ∙ omega arith in
       let same : t + 0 ≡ t = omega arith in
       record {
-        input = subst (λ y. Carries w (get_or (stage_seats 0 base.input base.chan base.output k) v no_seat).input
+        input = subst (λ y. Carries w (get_or (stage_slots 0 base.input base.chan base.output k) v no_slot).input
             (node_at tree (part_at tree node y)).ins (t + 0)) (sym part)
-            (subst (Carries w (get_or (stage_seats 0 base.input base.chan base.output k) v no_seat).input
+            (subst (Carries w (get_or (stage_slots 0 base.input base.chan base.output k) v no_slot).input
             (node_at tree (part_at tree node v)).ins) (sym same) f.input);
-        output = subst (λ y. Carries w (get_or (stage_seats 0 base.input base.chan base.output k) v no_seat).output
+        output = subst (λ y. Carries w (get_or (stage_slots 0 base.input base.chan base.output k) v no_slot).output
             (node_at tree (part_at tree node y)).outs (t + 0)) (sym part)
-            (subst (Carries w (get_or (stage_seats 0 base.input base.chan base.output k) v no_seat).output
+            (subst (Carries w (get_or (stage_slots 0 base.input base.chan base.output k) v no_slot).output
             (node_at tree (part_at tree node v)).outs) (sym same) f.output);
       };
 }

@@ -1,6 +1,6 @@
--- What is in a row: there are n numbers from c on, the one at w is c + w (`upto_length`,
--- `upto_at`), and where two lists of processes are in a net one after the other, each of them is
--- there (`stands_split`); and where two processes do, each of them (`stands_two`). The templates
+-- Elements of rows. There are n numbers from c on, and the one at w is c + w (`numbers_length`,
+-- `numbers_at`). If a net has two lists of processes one after the other, it has each of them
+-- (`stands_split`); if it has two processes so, it has each of them (`stands_two`). The templates
 -- use the first two for the ports of a process, reduce and linker the third for their own
 -- processes.
 use Rattle.std.proofs.Common.{◌≡◌, ℕ, zero, suc, ◌+◌, ◌<◌, List, [], ◌∷◌, ◌++◌, length, get_or, Some, slice_get, refl, ap, ◌∙◌, subst, arith}

@@ -29,7 +29,7 @@ module _ (net : Net) (units : Units) (s : State) (p : ℕ) (q : Proc) (stands : 
   pub can_at : is_ready units.tree net s p ≡ true → row_can q.kind units.tree net s (s.own p) q ≡ true
   can_at h = sym (rows.ready_at units.tree net s p q stands) ∙ h
 
-  -- what q does, in one of its ways
+  -- q fires in one of its ways
   pub way_at : (t : State) → MayFire units.tree units.leaf net s p t →
       row_ways q.kind units.tree units.leaf (eyes_of net s) s p (s.own p) q t
   way_at t way = ways_at units.tree units.leaf net s p t q stands (eyes_of net s) way

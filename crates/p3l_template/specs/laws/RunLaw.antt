@@ -87,9 +87,9 @@ run_drains : (net : Net) (units : Units) (node : ℕ) (base : Base) (s : State) 
     AreStanding net base.proc (run_proc node base ∷ []) → can_fire units.tree net s base.proc ≡ false →
     has_trap s.emitted ≡ false → has_room net s base.output ≡ true → s.tokens base.input ≡ []
 unfolding AreStanding row_can run.can
-run_drains net units node base s stands cannot calm room =
+run_drains net units node base s stands cannot untrapped room =
     emptied (s.tokens base.input)
-    (and_right_true _ _ room (cannot_at net units s base.proc (run_proc node base) stands.0 calm cannot))
+    (and_right_true _ _ room (cannot_at net units s base.proc (run_proc node base) stands.0 untrapped cannot))
 
 pub run_lawful : (node : ℕ) → IsLawfulShape (run_shape node)
 run_lawful node = record {
@@ -113,11 +113,11 @@ run_lawful node = record {
         subst (λ u. due (run_part (outcome_at units node) base) u < due (run_part (outcome_at units node) base) s)
         (sym w.0) (one_due base (outcome_at units node) s placed.good.apart w.1);
     size = λ s orderly. record { owed = omega arith; pending = omega arith };
-    drain = λ s orderly quiet calm room.
+    drain = λ s orderly quiet untrapped room.
         record {
           input =
               run_drains net units node base s placed.procs
-              (quiet base.proc (record { from = le_refl _; to = omega arith })) calm room;
+              (quiet base.proc (record { from = le_refl _; to = omega arith })) untrapped room;
           pending = refl;
         };
   };
@@ -125,5 +125,5 @@ run_lawful node = record {
   count = λ base. refl;
   laid = λ cap base. refl;
   rooms = λ cap base k h l. absurd (omega arith);
-  seats = λ net base good v l. absurd (omega arith);
+  slots = λ net base good v l. absurd (omega arith);
 }

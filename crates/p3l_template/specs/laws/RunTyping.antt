@@ -30,7 +30,7 @@ run_typed tree node is = record {
     },
     tt,
   );
-  seats = λ w base t s v l. absurd (omega arith);
+  slots = λ w base t s v l. absurd (omega arith);
 }
 
 pub run_serves : (tree : Tree) (own node : ℕ) → (own ≡ node) × IsRunNode tree node → IsTypedShape tree node (run_shape own)

@@ -1,13 +1,13 @@
--- How often numbers occur in lists. Over an append the counts add up (`times_append`,
--- `times_cons`); the numbers from c on, and the channels of seats, are such lists
+-- Counts of the occurrences of a number in a list. Over an append the counts add up (`times_append`,
+-- `times_cons`); the numbers from c on, and the channels of slots, are such lists
 -- (`numbers_append`, `fan_ins`, `fan_outs`).
 use Rattle.std.proofs.Common.{◌≡◌, ℕ, zero, suc, ◌+◌, ◌<◌, List, [], ◌∷◌, ◌++◌, cond, refl, ap, ap₂, ◌∙◌, subst, arith}
 use Rattle.std.specs.Prelude.{◌==◌}
 use Rattle.std.specs.List.{AllByRecursion}
 use Rattle.std.proofs.lemmas.List.Sums.{sum_by-append}
 use Rattle.p3l_firing.specs.Process.{times}
-use Rattle.p3l_template.specs.Shape.{numbers_from, fan_seats}
-use Rattle.p3l_template.specs.Typing.{seat_ins, seat_outs}
+use Rattle.p3l_template.specs.Shape.{numbers_from, fan_slots}
+use Rattle.p3l_template.specs.Typing.{slot_ins, slot_outs}
 
 pub times_append : (c : ℕ) (xs ys : List ℕ) → times c (xs ++ ys) ≡ times c xs + times c ys
 times_append c xs ys = sum_by-append (λ d. cond (d == c) 1 0) xs ys
@@ -27,17 +27,17 @@ numbers_append c (suc n) k =
     ∙ ap (λ z. c ∷ z)
     (numbers_append (suc c) n k ∙ ap (λ z. numbers_from (suc c) n ++ numbers_from z k) (omega arith))
 
-pub fan_ins : (i o n : ℕ) → seat_ins (fan_seats i o n) ≡ numbers_from i n
-unfolding fan_seats numbers_from
+pub fan_ins : (i o n : ℕ) → slot_ins (fan_slots i o n) ≡ numbers_from i n
+unfolding fan_slots numbers_from
 fan_ins i o zero = refl
 fan_ins i o (suc n) = ap (λ z. i ∷ z) (fan_ins (suc i) (suc o) n)
 
-pub fan_outs : (i o n : ℕ) → seat_outs (fan_seats i o n) ≡ numbers_from o n
-unfolding fan_seats numbers_from
+pub fan_outs : (i o n : ℕ) → slot_outs (fan_slots i o n) ≡ numbers_from o n
+unfolding fan_slots numbers_from
 fan_outs i o zero = refl
 fan_outs i o (suc n) = ap (λ z. o ∷ z) (fan_outs (suc i) (suc o) n)
 
--- what holds of each of the numbers from c on holds of all
+-- a property of each of the n numbers from c on holds of all
 pub all_numbers : (P : ℕ → Type 0) (c n : ℕ) → ((k : ℕ) → k < n → P (c + k)) → AllByRecursion P (numbers_from c n)
 unfolding numbers_from
 all_numbers P c zero h = tt

@@ -1,9 +1,9 @@
--- What a pop, a push and a new own state leave of a state: the channel or process that they name changes as said, and
--- each other stays. `passed` is a process that takes a token here, puts one there and counts.
+-- Effects of a pop, a push and a new local state on a state: the channel or process that they name changes as stated, and
+-- each other is unchanged. `passed` is a process that takes a token here, puts one there and counts.
 -- The laws of farm, loop, map and reduce read their rows through these lemmas.
 use Rattle.std.proofs.Common.{◌≡◌, ℕ, ◌≢◌, ◌+◌, [], ◌∷◌, ◌++◌, refl, sym, ap, ◌∙◌}
 use Rattle.p3l_firing.specs.Lists.{rest_of}
-use Rattle.p3l_firing.specs.State.{Own, State, pop, push, set_own, counted}
+use Rattle.p3l_firing.specs.State.{LocalState, State, pop, push, set_own, counted}
 use Rattle.p3l_firing.specs.declared.token.Token.{Token}
 use Rattle.p3l_template.specs.laws.Rows.{at-same, at-other}
 
@@ -23,15 +23,15 @@ pub push_other : (s : State) (b : ℕ) (t : Token) (c : ℕ) → c ≢ b → (pu
 unfolding push
 push_other s b t c h = at-other s.tokens b _ c h
 
-pub set_tokens : (s : State) (p : ℕ) (o : Own) (c : ℕ) → (set_own s p o).tokens c ≡ s.tokens c
+pub set_tokens : (s : State) (p : ℕ) (o : LocalState) (c : ℕ) → (set_own s p o).tokens c ≡ s.tokens c
 unfolding set_own
 set_tokens s p o c = refl
 
-pub own_same : (s : State) (p : ℕ) (o : Own) → (set_own s p o).own p ≡ o
+pub own_same : (s : State) (p : ℕ) (o : LocalState) → (set_own s p o).own p ≡ o
 unfolding set_own
 own_same s p o = at-same s.own p o
 
-pub own_other : (s : State) (p : ℕ) (o : Own) (q : ℕ) → q ≢ p → (set_own s p o).own q ≡ s.own q
+pub own_other : (s : State) (p : ℕ) (o : LocalState) (q : ℕ) → q ≢ p → (set_own s p o).own q ≡ s.own q
 unfolding set_own
 own_other s p o q h = at-other s.own p o q h
 

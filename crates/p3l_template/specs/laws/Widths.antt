@@ -1,5 +1,5 @@
 -- ROWS OF WIDTHS: how many tags the channels of a kind carry.
-use Rattle.std.proofs.Common.{ℕ, zero, suc, ◌+◌, ◌≤◌, List, [], ◌∷◌, ◌++◌, map, replicate, inr, arith}
+use Rattle.std.proofs.Common.{ℕ, zero, suc, List, [], ◌∷◌, ◌++◌, map, replicate, inr, arith}
 use Rattle.std.specs.List.{AllByRecursion}
 use Rattle.p3l_skel.specs.declared.tree.Tree.{Tree}
 use Rattle.p3l_template.specs.PipeKind.{pipe_kind}

@@ -1,4 +1,4 @@
--- What is said of a pick is read as it is spelled.
+-- The label of a pick is read back as it is spelled.
 use Rattle.std.proofs.Common.{◌≡◌, ℕ, List, [], ◌∷◌, ◌++◌, Option, Some, None, Ok, refl, subst}
 use Rattle.p3l_firing.specs.declared.process.ProcKind.{ProcKind}
 use Rattle.p3l_firing.specs.declared.process.ProcKind.TheVariants.{Source, Sink, Run, Emit, Collect, Scatter, Gather, Split, FoldGather, Join, Head, Tail}
@@ -24,7 +24,7 @@ said_again (Some Head) rest = refl
 said_again (Some Tail) rest = refl
 said_again None rest = refl
 
--- what was read is spelled so
+-- a kind that is read is spelled in front
 said_takes : (all : List (Option ProcKind)) (s : List ℕ) (x : Option ProcKind × List ℕ) → first_said all s ≡ Ok x → s ≡ word_of x.0 ++ x.1
 said_takes [] s x e = absurd cc
 said_takes (said ∷ more) s x e = by_front (after_text (word_of said) s) (λ rest is. after_is (word_of said) s rest is) (λ later. said_takes more s x later) e

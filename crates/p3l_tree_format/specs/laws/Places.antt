@@ -1,19 +1,18 @@
 -- Places at which the bytes of trees are at fault, by the fields of spellings.
-use Rattle.std.proofs.Common.{◌≡◌, ℕ, zero, suc, ℤ, pos, Bool, true, false, eqb, List, [], ◌∷◌, ◌++◌, length, Option, Some, None, refl, ap, ◌∙◌, subst, arith}
+use Rattle.std.proofs.Common.{◌≡◌, ℕ, zero, suc, ℤ, pos, Bool, true, false, eqb, List, [], ◌∷◌, ◌++◌, length, Some, None, refl, ap, ◌∙◌}
 use Rattle.std.specs.Prelude.{is_some, unwrap_or}
 use Rattle.std.proofs.lemmas.Bool.{eqb-true}
 use Rattle.p3l_base.specs.Limits.{most_nodes, most_sizes, most_tokens, most_turns, most_words, most_workers}
 use Rattle.p3l_base.specs.declared.slice.Place.TheVariants.{Rest}
-use Rattle.p3l_skel.specs.declared.tree.Form.{Form}
 use Rattle.p3l_skel.specs.declared.tree.Form.TheVariants as form
 use Rattle.p3l_skel.specs.declared.tree.ModuleInfo.{ModuleInfo}
 use Rattle.p3l_skel.specs.declared.tree.ModuleKind.{ModuleKind}
 use Rattle.p3l_skel.specs.declared.tree.ModuleKind.TheVariants as kind
-use Rattle.p3l_format.specs.Format.{Format, both, pair, within}
-use Rattle.p3l_format.specs.Numbers.{block, one_of, u32_format, u32_in, u8_format, u8_in}
+use Rattle.p3l_format.specs.Format.{Format, pair, within}
+use Rattle.p3l_format.specs.Numbers.{block, one_of, u32_format, u8_in}
 use Rattle.p3l_format.specs.Places.{IsPlaced, Piece}
 use Rattle.p3l_format.specs.laws.Numbers.{lawful_one_of}
-use Rattle.p3l_format.specs.laws.Parts.{first_true, second_true}
+use Rattle.p3l_format.specs.laws.Parts.{first_true}
 use Rattle.p3l_format.specs.laws.Places.{CanTurn, HasAll, copies, copies_len, has_all, no_field, one_block, one_coded, one_of_one, one_u32, one_within, piece_of, IsOne, placed_both, placed_counted, placed_form, placed_i64, placed_nothing, placed_one, placed_one_of, placed_pair, placed_record, placed_tagged, placed_u32_below, placed_u32_in, placed_u8_in}
 use Rattle.p3l_tree_format.specs.declared.version.Version.{Version}
 use Rattle.p3l_tree_format.specs.declared.version.Version.TheVariants.{One, Two}
@@ -21,11 +20,11 @@ use Rattle.p3l_tree_format.specs.Slice.{places, place_number, place_format, dim_
 use Rattle.p3l_tree_format.specs.Version.{version_number, version_of, version_format}
 use Rattle.p3l_tree_format.specs.Rescue.{flags, flag_number, flag_format, number_format, rescue_format}
 use Rattle.p3l_tree_format.specs.Module.{kinds, kind_number, kind_format, is_name, name_format, module_format}
-use Rattle.p3l_tree_format.specs.Form.{is_form, clause_of, clause_number, is_clause, clause_format, workers_of, cut_of, fold_of, loop_of, form_format}
+use Rattle.p3l_tree_format.specs.Form.{clause_of, clause_format, form_format}
 use Rattle.p3l_tree_format.specs.Tree.{indices_format, node_format, nodes_format, modules_format, tree_format, counts_format}
 use Rattle.p3l_tree_format.specs.laws.Slice.{lawful_place}
 use Rattle.p3l_tree_format.specs.laws.Version.{lawful_version}
-use Rattle.p3l_tree_format.specs.laws.Rescue.{lawful_flag, only_none, some_there, number_has, flag_there}
+use Rattle.p3l_tree_format.specs.laws.Rescue.{only_none, some_there, number_has, flag_there}
 use Rattle.p3l_tree_format.specs.laws.Module.{lawful_kind, name_back}
 use Rattle.p3l_tree_format.specs.laws.Form.{clause_back, clause_fine, clause_there, only_seq, only_comp, only_pipe, farm_there, map_there, reduce_there, loop_there}
 

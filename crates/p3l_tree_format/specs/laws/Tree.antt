@@ -1,6 +1,6 @@
 -- Trees and counts are read as they are spelled.
 use Rattle.std.proofs.Common.{ℕ, List, refl}
-use Rattle.p3l_base.specs.Limits.{most_nodes, most_words, most_workers}
+use Rattle.p3l_base.specs.Limits.{most_nodes, most_workers}
 use Rattle.p3l_skel.specs.declared.tree.ModuleInfo.{ModuleInfo}
 use Rattle.p3l_format.specs.Lawful.{IsLawful}
 use Rattle.p3l_format.specs.laws.Formats.{lawful_pair, lawful_both, lawful_record, lawful_counted}

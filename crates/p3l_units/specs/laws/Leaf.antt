@@ -1,4 +1,4 @@
--- What the codes of a tree make of words.
+-- Results of a tree's codes on words.
 use Rattle.std.proofs.Common.{◌≡◌, ℕ, ℤ, zero, suc, ◌<◌, Bool, true, false, cond, ◌&&◌, List, [], ◌∷◌, length, get_or, Option, Some, None, refl, ap, ◌∙◌, subst, arith}
 use Rattle.std.specs.Prelude.{nat_eq, IsSomeAnd}
 use Rattle.std.proofs.lemmas.Bool.Decides.{nat_tests}
@@ -27,7 +27,7 @@ own_agrees : (b : Bool) (t : Bool) → b ≡ true → cond b t true ≡ true →
 own_agrees true t e h = h
 own_agrees false t e h = absurd cc
 
--- where a module's nodes take `ins` words and give `outs`, each does
+-- if a module's nodes take `ins` words and give `outs`, each does
 agrees_at : (m ins outs : ℕ) (nodes : List Node) (k : ℕ) → agrees m ins outs nodes ≡ true → k < length nodes → (get_or nodes k no_node).form ≡ forms.Seq → (get_or nodes k no_node).module ≡ m → outs ≡ (get_or nodes k no_node).outs
 agrees_at m ins outs [] k h inside seq own = absurd (omega arith)
 agrees_at m ins outs (node ∷ nodes) zero h inside seq own =

@@ -1,6 +1,6 @@
 use Rattle.std.proofs.Common.{◌≡◌, ◌++◌, ap, ◌∙◌, string_bytes}
 use Rattle.p3l_body.specs.Seq.{seq_tree}
-use Rattle.p3l_c.specs.Condition.{function_of, vars_shapes}
+use Rattle.p3l_c.specs.Condition.{vars_shapes}
 use Rattle.p3l_c_print.specs.Function.{outs_text, turns_text}
 use Rattle.p3l_c_print.proofs.Puts.{body_put}
 use Rattle.p3l_c_print.proofs.function.body_text.Goals as goal

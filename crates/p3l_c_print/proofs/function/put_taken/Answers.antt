@@ -1,5 +1,5 @@
-use Rattle.std.proofs.Common.{◌≡◌, ◌++◌, refl, ap, ◌∙◌, string_bytes}
-use Rattle.p3l_c_print.specs.Function.{storage_text, taken_text, sizes_text}
+use Rattle.std.proofs.Common.{◌≡◌, ◌++◌, refl, ap, ◌∙◌}
+use Rattle.p3l_c_print.specs.Function.{storage_text}
 use Rattle.p3l_c_print.proofs.function.put_taken.Goals as goal
 
 pub returns : goal.returns

@@ -1,5 +1,4 @@
 use Rattle.std.proofs.Common.{◌≡◌, ◌++◌, append-nil, string_bytes, sym, ap, ◌∙◌}
-use Rattle.p3l_c_print.specs.Function.{temps_text}
 use Rattle.p3l_c_print.proofs.Functions.{no_temps, temp_then}
 use Rattle.p3l_c_print.proofs.function.put_temps.Goals as goal
 

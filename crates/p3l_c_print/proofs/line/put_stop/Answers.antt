@@ -1,5 +1,4 @@
-use Rattle.std.proofs.Common.{◌≡◌, List, ◌++◌, refl, ap, ◌∙◌}
-use Rattle.std.specs.Prelude.{string_bytes}
+use Rattle.std.proofs.Common.{◌≡◌, ◌++◌, refl, ◌∙◌}
 use Rattle.p3l_c_print.specs.Line.{stop_line}
 use Rattle.p3l_c_print.proofs.line.put_stop.Goals as goal
 

@@ -7,7 +7,7 @@ decreases-instance l = l.levels
 
 abbrev pub invariant-loop-call : goal.invariant-loop-call
 invariant-loop-call l = record {
-  nodes : l.below.items ≡ instances_of (instance l.wired (l.levels - 1)) (take l.call-index l.call-items) (l.at + 1);
-  parts : l.parts ≡ firsts_of (instance l.wired (l.levels - 1)) (take l.call-index l.call-items) (l.at + 1);
+  nodes : l.below.items ≡ instances_of (instance l.callables (l.levels - 1)) (take l.call-index l.call-items) (l.at + 1);
+  parts : l.parts ≡ firsts_of (instance l.callables (l.levels - 1)) (take l.call-index l.call-items) (l.at + 1);
   few : (l.at + 1) + length l.below.items ≤ 128;
 }

@@ -5,9 +5,9 @@ use Rattle.p3l_check.proofs.nesting.is_nested.Goals as goal
 
 pub levels-init : goal.levels-init
 levels-init c =
-    subst (λ l. IsLevel c.args.wired.now 0 l) (sym (c.in_ok-level.ensures.items_if_clones_equal (λ y h. h))) (first_level c.args.wired.now)
+    subst (λ l. IsLevel c.args.callables.now 0 l) (sym (c.in_ok-level.ensures.items_if_clones_equal (λ y h. h))) (first_level c.args.callables.now)
 
 pub levels-preserved : goal.levels-preserved
 levels-preserved c =
-    subst (λ l. IsLevel c.args.wired.now (c.levels._depth + 1) l) (sym c.in_ok-level-2.ensures)
-    (next_level c.args.wired.now c.levels._depth _ c.requires.calls (subst (λ l. IsLevel c.args.wired.now c.levels._depth l) (sym c.deref.ensures.value) c.levels.invariant))
+    subst (λ l. IsLevel c.args.callables.now (c.levels._depth + 1) l) (sym c.in_ok-level-2.ensures)
+    (next_level c.args.callables.now c.levels._depth _ c.requires.calls (subst (λ l. IsLevel c.args.callables.now c.levels._depth l) (sym c.deref.ensures.value) c.levels.invariant))

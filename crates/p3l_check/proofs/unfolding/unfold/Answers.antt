@@ -11,14 +11,14 @@ use Rattle.p3l_check.proofs.unfolding.unfold.Goals as goal
 
 pub returns-then-is_light-clause-tree : goal.returns-then-is_light-clause-tree
 returns-then-is_light-clause-tree c =
-    let wired = c.args.wired.now in
-    let nodes_are : c.from_vec.result ≡ instance wired nesting c.args.root 0 = c.from_vec.ensures ∙ c.in_ok-nodes.ensures.nodes in
-    let tree_is : (let t : Tree = record { nodes = c.from_vec.result; modules = c.args.infos } in t) ≡ tree_of c.args.infos wired c.args.root = ap (λ (ns : List Node). let t : Tree = record { nodes = ns; modules = c.args.infos } in t) nodes_are in
-    let nested : is_nested_within wired nesting c.args.root ≡ true = sym c.in_ok-is_nested.ensures ∙ c.if-not-branch.false in
-    let few : length (instance wired nesting c.args.root 0) ≤ 128 = subst (λ ns. length ns ≤ 128) c.in_ok-nodes.ensures.nodes (omega (arith, c.in_ok-nodes.ensures.few)) in
-    let light : IsLight (tree_of c.args.infos wired c.args.root) = subst IsLight tree_is (c.is_light.ensures.0 c.if-is_light.true) in
+    let callables = c.args.callables.now in
+    let nodes_are : c.from_vec.result ≡ instance callables nesting c.args.root 0 = c.from_vec.ensures ∙ c.in_ok-nodes.ensures.nodes in
+    let tree_is : (let t : Tree = record { nodes = c.from_vec.result; modules = c.args.infos } in t) ≡ tree_of c.args.infos callables c.args.root = ap (λ (ns : List Node). let t : Tree = record { nodes = ns; modules = c.args.infos } in t) nodes_are in
+    let nested : is_nested_within callables nesting c.args.root ≡ true = sym c.in_ok-is_nested.ensures ∙ c.if-not-branch.false in
+    let few : length (instance callables nesting c.args.root 0) ≤ 128 = subst (λ ns. length ns ≤ 128) c.in_ok-nodes.ensures.nodes (omega (arith, c.in_ok-nodes.ensures.few)) in
+    let light : IsLight (tree_of c.args.infos callables c.args.root) = subst IsLight tree_is (c.is_light.ensures.0 c.if-is_light.true) in
     record {
       tree_is = tree_is;
       nested = nested;
-      lawful = subst IsLawfulTree (sym tree_is) (lawful_unfolded c.args.infos wired c.args.root c.requires.wiring c.requires.root nested few light);
+      lawful = subst IsLawfulTree (sym tree_is) (lawful_unfolded c.args.infos callables c.args.root c.requires.wiring c.requires.root nested few light);
     }

@@ -8,7 +8,7 @@ use Rattle.p3l_code.proofs.run.count.Given as goal
 abbrev pub decreases-steps : goal.decreases-steps
 decreases-steps l = rank l.code l.pc l.turns
 
--- the machine goes on from here as it began, and what is counted is what it has done
+-- the machine continues from here as it began, and the count is that of the instructions it has done
 abbrev pub invariant-steps : goal.invariant-steps
 invariant-steps l = record {
   same : machine l.code 0 [] l.fn.memory 0 ≡ machine l.code l.pc l.stack.words l.memory l.turns;

@@ -1,6 +1,6 @@
 use Rattle.std.proofs.Common.{ℕ, ◌<◌}
 use Rattle.p3l_firing.specs.State.{chan_at}
-use Rattle.p3l_net.specs.Shot.{saved_at}
+use Rattle.p3l_firing.specs.Shot.{saved_at}
 use Rattle.p3l_fitting.specs.Decided.{QueueFits}
 use Rattle.p3l_template.specs.Width.{width_at}
 use Rattle.p3l_fitting.proofs.channels.queues_fit.Given as goal

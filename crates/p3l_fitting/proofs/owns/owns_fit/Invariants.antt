@@ -1,6 +1,6 @@
 use Rattle.std.proofs.Common.{◌≡◌, ℕ, ◌<◌, Some, slice_get}
 use Rattle.p3l_firing.specs.declared.process.Proc.{Proc}
-use Rattle.p3l_net.specs.Fitting.{own_saved_at}
+use Rattle.p3l_firing.specs.Shot.{own_saved_at}
 use Rattle.p3l_fitting.specs.Decided.{OwnFits}
 use Rattle.p3l_fitting.proofs.owns.owns_fit.Given as goal
 

@@ -1,5 +1,5 @@
 use Rattle.std.proofs.Common.{◌≡◌, ◌≤◌, ◌<◌, ◌+◌, ℕ, suc, Bool, true, false, IsTrue, ◌↔◌, refl, List, length, take, get_or, ap, ◌∙◌, sym, subst, add-one}
-use Rattle.p3l_lexer.specs.declared.token.Token.{Token}
+use Rattle.p3l_lexer.specs.declared.token.TextToken.{TextToken}
 use Rattle.p3l_grammar.specs.declared.nest.Nest.{Nest}
 use Rattle.p3l_grammar.specs.Symbol.{symbol, symbols}
 use Rattle.p3l_grammar.specs.Limits.{at_rest, after_symbol, nest_after, IsKept}
@@ -14,8 +14,8 @@ is_kept : (b : Bool) (n : Nest) → IsTrue b ↔ IsKept n → b ≡ true → IsK
 is_kept true n h p = h.0 refl
 is_kept false n h p = absurd (cc)
 
--- where one more token leads
-leads : (n : Nest) (ts : List Token) (i : ℕ) (t : Token) → n ≡ nest_after at_rest (symbols (take i ts)) → t ≡ get_or ts i t → i < length ts → after_symbol n (symbol t) ≡ nest_after at_rest (symbols (take (suc i) ts))
+-- the nest after one more token is that of the longer front
+leads : (n : Nest) (ts : List TextToken) (i : ℕ) (t : TextToken) → n ≡ nest_after at_rest (symbols (take i ts)) → t ≡ get_or ts i t → i < length ts → after_symbol n (symbol t) ≡ nest_after at_rest (symbols (take (suc i) ts))
 leads n ts i t p q h =
     ap (λ m. after_symbol m (symbol t)) p
     ∙ ap (λ x. after_symbol (nest_after at_rest (symbols (take i ts))) (symbol x)) q

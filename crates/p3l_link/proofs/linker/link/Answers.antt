@@ -14,7 +14,7 @@ use Rattle.p3l_link.proofs.linker.link.Goals as goal
 use Rattle.p3l_link.proofs.linker.link.Goals.{After-finish}
 
 module _ (tree : Tree) (counts : List ℕ) (cap : ℕ) (b : Net) (ends : b ≡ end_net cap) where
-  -- what the root places between the ends
+  -- the piece of the root between the ends
   abbrev piece : Piece
   piece = piece_of tree (count_of tree counts) cap nesting 0 (base_of (record { input = 0; output = 1 }) b)
 

@@ -4,7 +4,7 @@ use Rattle.p3l_skel.specs.Counts.{count_of}
 use Rattle.p3l_template.specs.Kind.{Kind}
 use Rattle.p3l_template.specs.Shape.{FitsAt, HasRoomFor, added, base_of}
 use Rattle.p3l_link.specs.Shape.{shape_at}
-use Rattle.p3l_link.proofs.AnyKind.{seats_are}
+use Rattle.p3l_link.proofs.AnyKind.{slots_are}
 use Rattle.p3l_link.proofs.Counted.{counted_deep, counted_own, counted_there}
 use Rattle.p3l_link.proofs.Walk.{begun, continued, ended, own_room, part_counted, part_room}
 use Rattle.p3l_link.proofs.place.+place_node.Goals as goal
@@ -17,8 +17,8 @@ pub template_of-template-requires-clause-count : goal.template_of-template-requi
 template_of-template-requires-clause-count t c =
     counted_own c.args.tree.now (count_of c.args.tree.now c.args.counts.now.list) c.args.levels c.args.number c.requires.counted
 
-pub seats-requires-clause-room : goal.seats-requires-clause-room
-seats-requires-clause-room t c =
+pub slots-requires-clause-room : goal.slots-requires-clause-room
+slots-requires-clause-room t c =
     let tree = c.args.tree.now in
     let count = count_of c.args.tree.now c.args.counts.now.list in
     let room = own_room tree count c.args.cap c.args.levels c.args.number c.requires.lawful c.requires.counted c.args.at.now
@@ -33,8 +33,8 @@ place-requires-clause-room t c =
     (own_room c.args.tree.now (count_of c.args.tree.now c.args.counts.now.list) c.args.cap c.args.levels c.args.number
     c.requires.lawful c.requires.counted c.args.at.now c.args.builder.now c.requires.room)
 
-pub loop-seat-init : goal.loop-seat-init
-loop-seat-init t c =
+pub loop-slot-init : goal.loop-slot-init
+loop-slot-init t c =
     let base = base_of c.args.at.now c.args.builder.now in
     begun c.args.tree.now (count_of c.args.tree.now c.args.counts.now.list) c.args.cap c.args.levels c.args.number
     c.requires.lawful c.requires.counted c.args.at.now c.args.builder.now c.place.new.builder
@@ -49,45 +49,45 @@ pub place_node-requires : goal.place_node-requires
 place_node-requires t c =
     let tree = c.args.tree.now in
     let count = count_of c.args.tree.now c.args.counts.now.list in
-    let items = c.as_slice-seat-items.ensures ∙ seats_are tree count c.args.number c.template_of-template.result
+    let items = c.as_slice-slot-items.ensures ∙ slots_are tree count c.args.number c.template_of-template.result
     c.template_of-template.ensures.kind c.place_after.result (base_of c.args.at.now c.args.builder.now) c.place_after.ensures _
-    c.in_ok-seats.ensures in
+    c.in_ok-slots.ensures in
     let some = counted_deep tree count c.args.levels c.args.number c.requires.counted in (
       omega (arith, some, c.decreases),
       (
         c.requires.lawful,
         (
           part_counted tree count c.args.cap c.args.levels c.args.number c.requires.lawful c.requires.counted c.args.at.now
-              c.args.builder.now c.as_slice-seat-items.result.now items c.loop-seat.builder c.loop-seat.seat-index
-              c.loop-seat.invariant c.loop-seat-test.true _ c.seat-item.result c.seat.view_is c.seat-item.is c.part_of-part.result
+              c.args.builder.now c.as_slice-slot-items.result.now items c.loop-slot.builder c.loop-slot.slot-index
+              c.loop-slot.invariant c.loop-slot-test.true _ c.slot-item.result c.slot.view_is c.slot-item.is c.part_of-part.result
               c.part_of-part.ensures,
           part_room tree count c.args.cap c.args.levels c.args.number c.requires.lawful c.requires.counted c.args.at.now
-              c.args.builder.now c.as_slice-seat-items.result.now items c.loop-seat.builder c.loop-seat.seat-index
-              c.loop-seat.invariant c.loop-seat-test.true _ c.seat-item.result c.seat.view_is c.seat-item.is c.part_of-part.result
+              c.args.builder.now c.as_slice-slot-items.result.now items c.loop-slot.builder c.loop-slot.slot-index
+              c.loop-slot.invariant c.loop-slot-test.true _ c.slot-item.result c.slot.view_is c.slot-item.is c.part_of-part.result
               c.part_of-part.ensures c.requires.room,
         ),
       ),
     )
 
-pub loop-seat-preserved : goal.loop-seat-preserved
-loop-seat-preserved t c =
+pub loop-slot-preserved : goal.loop-slot-preserved
+loop-slot-preserved t c =
     let tree = c.args.tree.now in
     let count = count_of c.args.tree.now c.args.counts.now.list in
-    let items = c.as_slice-seat-items.ensures ∙ seats_are tree count c.args.number c.template_of-template.result
+    let items = c.as_slice-slot-items.ensures ∙ slots_are tree count c.args.number c.template_of-template.result
     c.template_of-template.ensures.kind c.place_after.result (base_of c.args.at.now c.args.builder.now) c.place_after.ensures _
-    c.in_ok-seats.ensures in
+    c.in_ok-slots.ensures in
     continued tree count c.args.cap c.args.levels c.args.number c.requires.lawful c.requires.counted c.args.at.now
-    c.args.builder.now c.as_slice-seat-items.result.now items c.loop-seat.builder c.loop-seat.seat-index c.loop-seat.invariant
-    c.loop-seat-test.true _ c.seat-item.result c.seat.view_is c.seat-item.is c.part_of-part.result c.part_of-part.ensures
+    c.args.builder.now c.as_slice-slot-items.result.now items c.loop-slot.builder c.loop-slot.slot-index c.loop-slot.invariant
+    c.loop-slot-test.true _ c.slot-item.result c.slot.view_is c.slot-item.is c.part_of-part.result c.part_of-part.ensures
     c.place_node.new.builder c.in_ok-place_node.ensures
 
 pub returns : goal.returns
 returns t c =
     let tree = c.args.tree.now in
     let count = count_of c.args.tree.now c.args.counts.now.list in
-    let items = c.as_slice-seat-items.ensures ∙ seats_are tree count c.args.number c.template_of-template.result
+    let items = c.as_slice-slot-items.ensures ∙ slots_are tree count c.args.number c.template_of-template.result
     c.template_of-template.ensures.kind c.place_after.result (base_of c.args.at.now c.args.builder.now) c.place_after.ensures _
-    c.in_ok-seats.ensures in
+    c.in_ok-slots.ensures in
     ended tree count c.args.cap c.args.levels c.args.number c.requires.lawful c.requires.counted c.args.at.now
-    c.args.builder.now c.as_slice-seat-items.result.now items c.loop-seat.builder c.loop-seat.seat-index c.loop-seat.invariant
-    c.loop-seat-test.false
+    c.args.builder.now c.as_slice-slot-items.result.now items c.loop-slot.builder c.loop-slot.slot-index c.loop-slot.invariant
+    c.loop-slot-test.false

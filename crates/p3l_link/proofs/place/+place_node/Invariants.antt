@@ -8,12 +8,12 @@ use Rattle.p3l_link.proofs.place.+place_node.Given as goal
 abbrev pub decreases-place_node : goal.decreases-place_node
 decreases-place_node l = l.levels
 
--- what is built, with the parts at the seats that are left, is the whole
-abbrev pub invariant-loop-seat : goal.invariant-loop-seat
-invariant-loop-seat l =
+-- the net built so far, with the parts at the slots that are left, is the whole
+abbrev pub invariant-loop-slot : goal.invariant-loop-slot
+invariant-loop-slot l =
     with_piece l.builder
     (inner_pieces (part_piece l.tree (count_of l.tree l.counts.list) l.cap (l.levels - 1) l.number)
-    (drop l.seat-index ((shape_at l.tree (count_of l.tree l.counts.list) l.number).seats (base_of l.at l.fn.builder)))
+    (drop l.slot-index ((shape_at l.tree (count_of l.tree l.counts.list) l.number).slots (base_of l.at l.fn.builder)))
     (length l.builder.procs) (length l.builder.chans))
     ≡ with_piece l.fn.builder
     (piece_of l.tree (count_of l.tree l.counts.list) l.cap l.levels l.number (base_of l.at l.fn.builder))

@@ -8,7 +8,7 @@ use Rattle.p3l_code.specs.Safe.{IsSafe}
 use Rattle.p3l_image.specs.declared.image.Image.{Image}
 use Rattle.p3l_image.specs.Image.{CanBeWritten, image_text}
 use Rattle.p3l_load.specs.Written.{HasAllOperands, HasRescueInRange}
-use Rattle.p3l_load.specs.Compiled.{IsImageText, image_of}
+use Rattle.p3l_load.specs.Compiled.{image_of}
 use Rattle.p3l_load.proofs.Runnable.{IsMade, made}
 use Rattle.p3l_load.proofs.compiled.image_text.Goals as goal
 

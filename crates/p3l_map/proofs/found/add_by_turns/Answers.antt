@@ -10,7 +10,7 @@ use Rattle.p3l_map.specs.MapKind.{bare_pieces}
 use Rattle.p3l_map.proofs.MapSteps.{IsTaking, turn_below, none_taken_yet, no_turn, next_turn, all_turns}
 use Rattle.p3l_map.proofs.found.add_by_turns.Goals as goal
 
--- what was written back over as many numbers
+-- a list written over as many numbers is read back
 written : (xs ys : List ℕ) (k : ℕ) → length xs ≡ length ys → length ys ≡ k → take k (xs ++ drop (length xs) ys) ≡ xs
 written [] [] zero h e = refl
 written [] [] (suc k) h e = absurd (omega (arith, e))

@@ -1,7 +1,8 @@
-use Rattle.std.proofs.Common.{◌≡◌, ◌%◌, ◌++◌, ℕ, List, [], length, subst, sym, ap, ap₂, ◌∙◌, arith}
+use Rattle.std.proofs.Common.{◌≡◌, ◌%◌, ◌++◌, ℕ, List, [], length, map, subst, sym, ap, ap₂, ◌∙◌, arith}
 use Rattle.std.proofs.lemmas.Bool.{false≢true}
-use Rattle.std.proofs.lemmas.List.{map-append}
+use Rattle.std.proofs.lemmas.List.{length-map, map-append}
 use Rattle.p3l_base.specs.Memory.{IfGiven}
+use Rattle.p3l_firing.specs.Shot.{token_of}
 use Rattle.p3l_firing.specs.declared.token.Token.{Token}
 use Rattle.p3l_map.specs.Map.{View}
 use Rattle.p3l_template.specs.Finding.{bare, bares}
@@ -31,7 +32,7 @@ module _ (number : ℕ) (lines : List (List Token)) (held sending none first : L
         e ∙ ap (λ z. z ++ bares sending) second_is ∙ sym (map-append bare (held ++ by_turns number lines (length held)) sending)
 
 pub returns-then-held-number : goal.returns-then-held-number
-returns-then-held-number c = none_found c.args.number (length c.args.lines.now) _ (λ k. omega (arith, k.full, c.if-held-number.true))
+returns-then-held-number c = none_found c.args.number (length c.args.lines.now) _ (λ k. omega (arith, k.full, length-map c.args.held.now token_of, c.if-held-number.true))
 
 pub returns-then-not-is_scattering : goal.returns-then-not-is_scattering
 returns-then-not-is_scattering c =
@@ -40,8 +41,8 @@ returns-then-not-is_scattering c =
 
 pub returns-then-not-branch : goal.returns-then-not-branch
 returns-then-not-branch c =
-    let count = first_count c.args.number c.args.lines.now c.args.held.now c.args.sending.now c.new-pieces.result c.add_bare.new.to
-    c.new-pieces.ensures c.in_ok-add_bare.ensures in
+    let count = first_count c.args.number c.args.lines.now (map token_of c.args.held.now) (map token_of c.args.sending.now) c.new-pieces.result c.add_saved.new.to
+    c.new-pieces.ensures c.in_ok-add_saved.ensures in
     none_found c.args.number (length c.args.lines.now) _
     (λ k. false≢true (sym c.if-not-branch.true ∙ c.in_ok-add_by_turns.ensures.all ∙ ap (are_in_turn c.args.number c.args.lines.now) count ∙ k.in_turn))
 
@@ -49,14 +50,14 @@ pub returns-then-len-number : goal.returns-then-len-number
 returns-then-len-number c =
     let v : View = record {
       lines = line_at c.args.lines.now;
-      held = c.args.held.now;
-      sending = c.args.sending.now;
+      held = map token_of c.args.held.now;
+      sending = map token_of c.args.sending.now;
       sent = c.args.sent;
       input = [];
       output = [];
     } in
-    let second = second_is c.args.number c.args.lines.now c.args.held.now c.args.sending.now c.new-pieces.result c.add_bare.new.to
-    c.new-pieces.ensures c.in_ok-add_bare.ensures c.add_by_turns.new.list (c.in_ok-add_by_turns.ensures.list c.if-not-branch.false) in
+    let second = second_is c.args.number c.args.lines.now (map token_of c.args.held.now) (map token_of c.args.sending.now) c.new-pieces.result c.add_saved.new.to
+    c.new-pieces.ensures c.in_ok-add_saved.ensures c.add_by_turns.new.list (c.in_ok-add_by_turns.ensures.list c.if-not-branch.false) in
     let count = c.len.ensures ∙ ap length second ∙ bares-length _ ∙ gathered_count c.args.number (length c.args.lines.now) v in
     none_found c.args.number (length c.args.lines.now) v
     (λ k. absurd (c.if-len-number.true (ap (λ m. m % c.args.number) count ∙ k.place ∙ sym c.next_piece.ensures)))
@@ -66,25 +67,26 @@ returns c =
     let n = length c.args.lines.now in
     let v : View = record {
       lines = line_at c.args.lines.now;
-      held = c.args.held.now;
-      sending = c.args.sending.now;
+      held = map token_of c.args.held.now;
+      sending = map token_of c.args.sending.now;
       sent = c.args.sent;
       input = [];
       output = [];
     } in
-    let gathered : List Token = c.args.held.now ++ by_turns c.args.number c.args.lines.now (length c.args.held.now) in
-    let first = first_count c.args.number c.args.lines.now c.args.held.now c.args.sending.now c.new-pieces.result c.add_bare.new.to
-    c.new-pieces.ensures c.in_ok-add_bare.ensures in
+    let held : List Token = map token_of c.args.held.now in
+    let gathered : List Token = held ++ by_turns c.args.number c.args.lines.now (length held) in
+    let first = first_count c.args.number c.args.lines.now (map token_of c.args.held.now) (map token_of c.args.sending.now) c.new-pieces.result c.add_saved.new.to
+    c.new-pieces.ensures c.in_ok-add_saved.ensures in
     let two = c.in_ok-add_by_turns.ensures.list c.if-not-branch.false in
-    let second = second_is c.args.number c.args.lines.now c.args.held.now c.args.sending.now c.new-pieces.result c.add_bare.new.to
-    c.new-pieces.ensures c.in_ok-add_bare.ensures c.add_by_turns.new.list two in
-    let third = third_is c.args.number c.args.lines.now c.args.held.now c.args.sending.now c.new-pieces.result c.add_bare.new.to
-    c.new-pieces.ensures c.in_ok-add_bare.ensures c.add_by_turns.new.list two c.add_bare-2.new.to c.in_ok-add_bare-2.ensures in
+    let second = second_is c.args.number c.args.lines.now (map token_of c.args.held.now) (map token_of c.args.sending.now) c.new-pieces.result c.add_saved.new.to
+    c.new-pieces.ensures c.in_ok-add_saved.ensures c.add_by_turns.new.list two in
+    let third = third_is c.args.number c.args.lines.now (map token_of c.args.held.now) (map token_of c.args.sending.now) c.new-pieces.result c.add_saved.new.to
+    c.new-pieces.ensures c.in_ok-add_saved.ensures c.add_by_turns.new.list two c.add_saved-2.new.to c.in_ok-add_saved-2.ensures in
     let count = c.len.ensures ∙ ap length second ∙ bares-length gathered ∙ gathered_count c.args.number n v in
     let place = ap (λ m. m % c.args.number) (sym count) ∙ c.if-len-number.false ∙ c.next_piece.ensures in
     let in_turn = sym (c.in_ok-add_by_turns.ensures.all ∙ ap (are_in_turn c.args.number c.args.lines.now) first) ∙ c.if-not-branch.false in
     let scatter = sym (c.is_scattering.ensures n) ∙ c.if-not-is_scattering.false in
     let path = ap (λ z. made_alike (begun c.args.number z)) (c.as_slice.ensures ∙ third)
-    ∙ made_alike-bare c.args.number (gathered ++ c.args.sending.now)
-    ∙ found_in_groups c.args.number n v (omega (arith, c.requires.number)) (omega (arith, c.if-held-number.false)) place in_turn scatter in
+    ∙ made_alike-bare c.args.number (gathered ++ map token_of c.args.sending.now)
+    ∙ found_in_groups c.args.number n v (omega (arith, c.requires.number)) (omega (arith, length-map c.args.held.now token_of, c.if-held-number.false)) place in_turn scatter in
     subst (λ z. IfGiven c.firsts_of_groups.result (λ pending. pending ≡ z)) path c.firsts_of_groups.ensures

@@ -1,4 +1,6 @@
-use Rattle.std.proofs.Common.{◌≡◌, ◌<◌, ◌&&◌, ℕ, nat_eq, nat_lt, true, List, [], ◌∷◌, length, refl, ap, arith, eq-eqb, ne_eqb}
+use Rattle.std.proofs.Common.{◌≡◌, ◌<◌, ◌&&◌, ℕ, nat_eq, nat_lt, true, List, [], ◌∷◌, length, map, refl, sym, ap, ◌∙◌, arith, eq-eqb, ne_eqb}
+use Rattle.std.proofs.lemmas.List.{length-map}
+use Rattle.p3l_firing.specs.Shot.{token_of}
 use Rattle.p3l_firing.specs.declared.token.Token.{Token}
 use Rattle.p3l_map.specs.Map.{scatter_ok}
 use Rattle.p3l_map.specs.MapKind.{bare_pieces}
@@ -17,7 +19,10 @@ some number lines k (t ∷ []) l = ap (λ b. b && nat_lt k number) (eq-eqb (leng
 some number lines k (t ∷ (u ∷ us)) l = ap (λ b. b && nat_lt k number) (ne_eqb (length (t ∷ (u ∷ us))) 1 (λ d. omega (arith, d)))
 
 pub returns-then-sending-eq0 : goal.returns-then-sending-eq0
-returns-then-sending-eq0 c = λ lines. none c.args.number lines c.args.sent c.args.sending.now c.if-sending-eq0.true
+returns-then-sending-eq0 c = λ lines. none c.args.number lines c.args.sent (map token_of c.args.sending.now) (omega (arith, length-map c.args.sending.now token_of, c.if-sending-eq0.true))
 
 pub returns : goal.returns
-returns c = λ lines. some c.args.number lines c.args.sent c.args.sending.now (omega (arith, c.if-sending-eq0.false))
+returns c = λ lines.
+    let same = length-map c.args.sending.now token_of in
+    ap (λ n. nat_eq n 1 && nat_lt c.args.sent c.args.number) (sym same)
+    ∙ some c.args.number lines c.args.sent (map token_of c.args.sending.now) (omega (arith, same, c.if-sending-eq0.false))

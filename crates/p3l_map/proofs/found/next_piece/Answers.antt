@@ -1,4 +1,6 @@
-use Rattle.std.proofs.Common.{◌≡◌, ◌<◌, ℕ, List, [], ◌∷◌, length, refl, arith}
+use Rattle.std.proofs.Common.{◌≡◌, ◌<◌, ℕ, List, [], ◌∷◌, length, map, refl, arith}
+use Rattle.std.proofs.lemmas.List.{length-map}
+use Rattle.p3l_firing.specs.Shot.{token_of}
 use Rattle.p3l_firing.specs.declared.token.Token.{Token}
 use Rattle.p3l_map.specs.Map.{next_piece}
 use Rattle.p3l_map.proofs.found.next_piece.Goals as goal
@@ -14,7 +16,7 @@ some [] k l = absurd (omega (arith, l))
 some (t ∷ ts) k l = refl
 
 pub returns-then-sending-eq0 : goal.returns-then-sending-eq0
-returns-then-sending-eq0 c = none c.args.sending.now c.args.sent c.if-sending-eq0.true
+returns-then-sending-eq0 c = none (map token_of c.args.sending.now) c.args.sent (omega (arith, length-map c.args.sending.now token_of, c.if-sending-eq0.true))
 
 pub returns-else-sending-eq0 : goal.returns-else-sending-eq0
-returns-else-sending-eq0 c = some c.args.sending.now c.args.sent (omega (arith, c.if-sending-eq0.false))
+returns-else-sending-eq0 c = some (map token_of c.args.sending.now) c.args.sent (omega (arith, length-map c.args.sending.now token_of, c.if-sending-eq0.false))

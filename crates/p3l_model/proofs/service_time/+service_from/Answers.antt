@@ -1,9 +1,9 @@
-use Rattle.std.proofs.Common.{◌≡◌, ◌-◌, ◌<◌, ◌≤◌, ◌∙◌, ℕ, List, max, take, length, get_or, add-one, arith, refl, sym, ap, subst}
+use Rattle.std.proofs.Common.{◌≡◌, ◌-◌, ◌<◌, ◌≤◌, ◌∙◌, ℕ, List, max, length, get_or, add-one, arith, refl, sym, subst}
 use Rattle.std.proofs.lemmas.List.{take_all}
 use Rattle.p3l_skel.specs.Tree.{node_at}
 use Rattle.p3l_skel.specs.Counts.{count_of, outside_parts}
 use Rattle.p3l_skel.proofs.Below.{node_at-past}
-use Rattle.p3l_model.specs.NodeCost.{timed, never}
+use Rattle.p3l_model.specs.NodeCost.{timed}
 use Rattle.p3l_model.specs.Service.{service_by, service_row, greatest_by}
 use Rattle.p3l_model.specs.Timed.{IsTimed}
 use Rattle.p3l_model.proofs.Connect.{service_by-step}

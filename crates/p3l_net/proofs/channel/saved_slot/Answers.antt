@@ -1,9 +1,9 @@
 use Rattle.std.proofs.Common.{◌≡◌, [], drop, sym, ap, ◌∙◌, subst, arith}
 use Rattle.p3l_base.specs.Memory.{IfGiven}
 use Rattle.p3l_firing.specs.declared.token.Token.{Token}
+use Rattle.p3l_firing.specs.Shot.{saved_token}
 use Rattle.p3l_net.specs.declared.channel.Slot.{Slot}
 use Rattle.p3l_net.specs.Rings.{lists_of, token_in}
-use Rattle.p3l_net.specs.Shot.{saved_token}
 use Rattle.p3l_net.proofs.Rings.{first-read}
 use Rattle.p3l_net.proofs.channel.saved_slot.Goals as goal
 

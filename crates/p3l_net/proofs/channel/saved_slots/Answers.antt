@@ -1,10 +1,10 @@
 use Rattle.std.proofs.Common.{◌≡◌, ◌+◌, [], ◌∷◌, ◌++◌, length, map, drop, List, sym, ap, ap₂, ◌∙◌, arith}
 use Rattle.std.proofs.Math.Seq.{drop-length}
 use Rattle.std.proofs.lemmas.List.{append-nil}
+use Rattle.p3l_firing.specs.declared.shot.SavedToken.{SavedToken}
+use Rattle.p3l_firing.specs.Shot.{saved_token}
 use Rattle.p3l_net.specs.declared.channel.Slot.{Slot}
-use Rattle.p3l_net.specs.declared.shot.SavedToken.{SavedToken}
 use Rattle.p3l_net.specs.Rings.{tokens_of}
-use Rattle.p3l_net.specs.Shot.{saved_token}
 use Rattle.p3l_net.proofs.Rings.{few_lists, saved-more, lists-more}
 use Rattle.p3l_net.proofs.channel.saved_slots.Goals as goal
 

@@ -1,6 +1,6 @@
 use Rattle.std.proofs.Common.{◌≡◌, ◌+◌, ◌++◌, length, map, drop}
+use Rattle.p3l_firing.specs.Shot.{saved_token}
 use Rattle.p3l_net.specs.Rings.{tokens_of, lists_in}
-use Rattle.p3l_net.specs.Shot.{saved_token}
 use Rattle.p3l_net.proofs.channel.saved_slots.Given as goal
 
 abbrev pub invariant-loop-k : goal.invariant-loop-k

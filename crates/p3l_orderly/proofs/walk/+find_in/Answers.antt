@@ -4,9 +4,9 @@ use Rattle.p3l_skel.specs.Counts.{count_of}
 use Rattle.p3l_template.specs.Finding.{if_orderly}
 use Rattle.p3l_template.specs.Kind.{Kind}
 use Rattle.p3l_template.specs.Shape.{Base, FitsAt}
-use Rattle.p3l_template.specs.Snapshot.{state_of}
+use Rattle.p3l_firing.specs.Shot.{state_of}
 use Rattle.p3l_link.specs.Shape.{kind_at}
-use Rattle.p3l_link.proofs.AnyKind.{seats_are}
+use Rattle.p3l_link.proofs.AnyKind.{slots_are}
 use Rattle.p3l_link.proofs.Counted.{counted_deep, counted_own, counted_there}
 use Rattle.p3l_orderly.proofs.WalkSteps.{items_end, not_some, own_count, own_found, own_room, part_counted, part_none, part_on, part_room}
 use Rattle.p3l_orderly.proofs.walk.+find_in.Goals as goal
@@ -19,12 +19,12 @@ pub template_of-template-requires-clause-count : goal.template_of-template-requi
 template_of-template-requires-clause-count t c =
     counted_own c.args.tree.now (count_of c.args.tree.now c.args.counts.now.list) c.args.levels c.args.number c.requires.counted
 
-pub seats-requires-clause-room : goal.seats-requires-clause-room
-seats-requires-clause-room t c =
+pub slots-requires-clause-room : goal.slots-requires-clause-room
+slots-requires-clause-room t c =
     let tree = c.args.tree.now in
     let count = count_of c.args.tree.now c.args.counts.now.list in
     let room = subst (λ (z : Kind). FitsAt z.shape c.args.place.now) (sym c.template_of-template.ensures.kind)
-    (own_room tree count c.args.levels c.args.number c.args.place.now (state_of c.args.snapshot.now) c.requires.lawful c.requires.counted
+    (own_room tree count c.args.levels c.args.number c.args.place.now (state_of c.args.shot.now) c.requires.lawful c.requires.counted
     c.requires.room) in
     room
 
@@ -33,7 +33,7 @@ overflow_cast-proc t c =
     let tree = c.args.tree.now in
     let count = count_of c.args.tree.now c.args.counts.now.list in
     let room = subst (λ (z : Kind). FitsAt z.shape c.args.place.now) (sym c.template_of-template.ensures.kind)
-    (own_room tree count c.args.levels c.args.number c.args.place.now (state_of c.args.snapshot.now) c.requires.lawful c.requires.counted
+    (own_room tree count c.args.levels c.args.number c.args.place.now (state_of c.args.shot.now) c.requires.lawful c.requires.counted
     c.requires.room) in
     omega (arith, room.0, c.proc_count.ensures c.args.place.now)
 
@@ -42,7 +42,7 @@ overflow_add-proc t c =
     let tree = c.args.tree.now in
     let count = count_of c.args.tree.now c.args.counts.now.list in
     let room = subst (λ (z : Kind). FitsAt z.shape c.args.place.now) (sym c.template_of-template.ensures.kind)
-    (own_room tree count c.args.levels c.args.number c.args.place.now (state_of c.args.snapshot.now) c.requires.lawful c.requires.counted
+    (own_room tree count c.args.levels c.args.number c.args.place.now (state_of c.args.shot.now) c.requires.lawful c.requires.counted
     c.requires.room) in
     omega (arith, room.0, c.proc_count.ensures c.args.place.now, ap (λ (b : Base). b.proc) c.place.view_is)
 
@@ -51,7 +51,7 @@ overflow_cast-chan t c =
     let tree = c.args.tree.now in
     let count = count_of c.args.tree.now c.args.counts.now.list in
     let room = subst (λ (z : Kind). FitsAt z.shape c.args.place.now) (sym c.template_of-template.ensures.kind)
-    (own_room tree count c.args.levels c.args.number c.args.place.now (state_of c.args.snapshot.now) c.requires.lawful c.requires.counted
+    (own_room tree count c.args.levels c.args.number c.args.place.now (state_of c.args.shot.now) c.requires.lawful c.requires.counted
     c.requires.room) in
     omega (arith, room.1, c.chan_count.ensures c.args.place.now)
 
@@ -60,7 +60,7 @@ overflow_add-chan t c =
     let tree = c.args.tree.now in
     let count = count_of c.args.tree.now c.args.counts.now.list in
     let room = subst (λ (z : Kind). FitsAt z.shape c.args.place.now) (sym c.template_of-template.ensures.kind)
-    (own_room tree count c.args.levels c.args.number c.args.place.now (state_of c.args.snapshot.now) c.requires.lawful c.requires.counted
+    (own_room tree count c.args.levels c.args.number c.args.place.now (state_of c.args.shot.now) c.requires.lawful c.requires.counted
     c.requires.room) in
     omega (arith, room.1, c.chan_count.ensures c.args.place.now, ap (λ (b : Base). b.chan) c.place.view_is)
 
@@ -72,19 +72,22 @@ pub find_in-requires : goal.find_in-requires
 find_in-requires t c =
     let tree = c.args.tree.now in
     let count = count_of c.args.tree.now c.args.counts.now.list in
-    let items = c.as_slice-seat-items.ensures ∙ seats_are tree count c.args.number c.template_of-template.result
-    c.template_of-template.ensures.kind c.args.place.now c.args.place.now refl _ c.in_ok-seats.ensures in
+    let items = c.as_slice-slot-items.ensures ∙ slots_are tree count c.args.number c.template_of-template.result
+    c.template_of-template.ensures.kind c.args.place.now c.args.place.now refl _ c.in_ok-slots.ensures in
     let some = counted_deep tree count c.args.levels c.args.number c.requires.counted in (
       omega (arith, some, c.decreases),
       (
         c.requires.lawful,
         (
-          part_counted tree count c.args.levels c.args.number c.args.place.now (state_of c.args.snapshot.now) c.requires.lawful c.requires.counted
-              c.as_slice-seat-items.result.now items c.loop-seat.seat-index c.loop-seat-test.true _ c.seat-item.result c.seat.view_is c.seat-item.is
+          part_counted tree count c.args.levels c.args.number c.args.place.now (state_of c.args.shot.now) c.requires.lawful c.requires.counted
+              c.as_slice-slot-items.result.now items c.loop-slot.slot-index c.loop-slot-test.true _ c.slot-item.result c.slot.view_is c.slot-item.is
               c.part_of-part.result c.part_of-part.ensures,
-          part_room tree count c.args.levels c.args.number c.args.place.now (state_of c.args.snapshot.now) c.requires.lawful c.requires.counted
-              c.as_slice-seat-items.result.now items c.loop-seat.seat-index c.loop-seat-test.true _ c.seat-item.result c.seat.view_is c.seat-item.is
-              c.part_of-part.result c.part_of-part.ensures c.loop-seat.proc c.loop-seat.chan _ refl c.loop-seat.inner c.loop-seat.invariant c.requires.room,
+          (
+            part_room tree count c.args.levels c.args.number c.args.place.now (state_of c.args.shot.now) c.requires.lawful c.requires.counted
+                c.as_slice-slot-items.result.now items c.loop-slot.slot-index c.loop-slot-test.true _ c.slot-item.result c.slot.view_is c.slot-item.is
+                c.part_of-part.result c.part_of-part.ensures c.loop-slot.proc c.loop-slot.chan _ refl c.loop-slot.inner c.loop-slot.invariant c.requires.room,
+            c.requires.few,
+          ),
         ),
       ),
     )
@@ -93,36 +96,36 @@ pub returns-in_default : goal.returns-in_default
 returns-in_default t c =
     let tree = c.args.tree.now in
     let count = count_of c.args.tree.now c.args.counts.now.list in
-    let items = c.as_slice-seat-items.ensures ∙ seats_are tree count c.args.number c.template_of-template.result
-    c.template_of-template.ensures.kind c.args.place.now c.args.place.now refl _ c.in_ok-seats.ensures in
-    part_none tree count c.args.levels c.args.number c.args.place.now (state_of c.args.snapshot.now) c.requires.lawful c.requires.counted
-    c.as_slice-seat-items.result.now items c.loop-seat.seat-index c.loop-seat-test.true _ c.seat-item.result c.seat.view_is c.seat-item.is
-    c.part_of-part.result c.part_of-part.ensures c.loop-seat.proc c.loop-seat.chan _ refl c.loop-seat.inner c.loop-seat.invariant
+    let items = c.as_slice-slot-items.ensures ∙ slots_are tree count c.args.number c.template_of-template.result
+    c.template_of-template.ensures.kind c.args.place.now c.args.place.now refl _ c.in_ok-slots.ensures in
+    part_none tree count c.args.levels c.args.number c.args.place.now (state_of c.args.shot.now) c.requires.lawful c.requires.counted
+    c.as_slice-slot-items.result.now items c.loop-slot.slot-index c.loop-slot-test.true _ c.slot-item.result c.slot.view_is c.slot-item.is
+    c.part_of-part.result c.part_of-part.ensures c.loop-slot.proc c.loop-slot.chan _ refl c.loop-slot.inner c.loop-slot.invariant
     (sym (not_some c.in_ok-found.found c.in_default.not-Some) ∙ c.in_ok-found.ensures)
 
-pub loop-seat-preserved : goal.loop-seat-preserved
-loop-seat-preserved t c =
+pub loop-slot-preserved : goal.loop-slot-preserved
+loop-slot-preserved t c =
     let tree = c.args.tree.now in
     let count = count_of c.args.tree.now c.args.counts.now.list in
-    let items = c.as_slice-seat-items.ensures ∙ seats_are tree count c.args.number c.template_of-template.result
-    c.template_of-template.ensures.kind c.args.place.now c.args.place.now refl _ c.in_ok-seats.ensures in
-    part_on tree count c.args.levels c.args.number c.args.place.now (state_of c.args.snapshot.now) c.requires.lawful c.requires.counted
-    c.as_slice-seat-items.result.now items c.loop-seat.seat-index c.loop-seat-test.true _ c.seat-item.result c.seat.view_is c.seat-item.is
-    c.part_of-part.result c.part_of-part.ensures c.loop-seat.proc c.loop-seat.chan _ refl c.loop-seat.inner c.loop-seat.invariant
+    let items = c.as_slice-slot-items.ensures ∙ slots_are tree count c.args.number c.template_of-template.result
+    c.template_of-template.ensures.kind c.args.place.now c.args.place.now refl _ c.in_ok-slots.ensures in
+    part_on tree count c.args.levels c.args.number c.args.place.now (state_of c.args.shot.now) c.requires.lawful c.requires.counted
+    c.as_slice-slot-items.result.now items c.loop-slot.slot-index c.loop-slot-test.true _ c.slot-item.result c.slot.view_is c.slot-item.is
+    c.part_of-part.result c.part_of-part.ensures c.loop-slot.proc c.loop-slot.chan _ refl c.loop-slot.inner c.loop-slot.invariant
     c.in-Some.found _ _ _ (sym c.in-Some.is ∙ c.in_ok-found.ensures) refl refl c.in_ok-push.ensures.ok
 
 pub pending-requires-clause-inner : goal.pending-requires-clause-inner
 pending-requires-clause-inner t c =
     let tree = c.args.tree.now in
     let count = count_of c.args.tree.now c.args.counts.now.list in
-    let items = c.as_slice-seat-items.ensures ∙ seats_are tree count c.args.number c.template_of-template.result
-    c.template_of-template.ensures.kind c.args.place.now c.args.place.now refl _ c.in_ok-seats.ensures in
-    let all = items_end tree count c.args.levels c.args.number c.args.place.now (state_of c.args.snapshot.now) c.requires.lawful
-    c.requires.counted c.as_slice-seat-items.result.now items c.loop-seat.seat-index c.loop-seat.proc c.loop-seat.chan c.loop-seat.inner
-    c.loop-seat.invariant (omega (arith, c.loop-seat-test.false)) in
+    let items = c.as_slice-slot-items.ensures ∙ slots_are tree count c.args.number c.template_of-template.result
+    c.template_of-template.ensures.kind c.args.place.now c.args.place.now refl _ c.in_ok-slots.ensures in
+    let all = items_end tree count c.args.levels c.args.number c.args.place.now (state_of c.args.shot.now) c.requires.lawful
+    c.requires.counted c.as_slice-slot-items.result.now items c.loop-slot.slot-index c.loop-slot.proc c.loop-slot.chan c.loop-slot.inner
+    c.loop-slot.invariant (omega (arith, c.loop-slot-test.false)) in
     ap length c.as_slice.ensures
-    ∙ own_count tree count c.args.levels c.args.number c.args.place.now (state_of c.args.snapshot.now) c.requires.lawful c.requires.counted
-    c.loop-seat.proc c.loop-seat.chan c.loop-seat.inner all
+    ∙ own_count tree count c.args.levels c.args.number c.args.place.now (state_of c.args.shot.now) c.requires.lawful c.requires.counted
+    c.loop-slot.proc c.loop-slot.chan c.loop-slot.inner all
     ∙ sym (ap (λ (z : Kind). z.shape.inner) c.template_of-template.ensures.kind)
 
 pub pending-requires-clause-room : goal.pending-requires-clause-room
@@ -130,7 +133,7 @@ pending-requires-clause-room t c =
     let tree = c.args.tree.now in
     let count = count_of c.args.tree.now c.args.counts.now.list in
     let room = subst (λ (z : Kind). FitsAt z.shape c.args.place.now) (sym c.template_of-template.ensures.kind)
-    (own_room tree count c.args.levels c.args.number c.args.place.now (state_of c.args.snapshot.now) c.requires.lawful c.requires.counted
+    (own_room tree count c.args.levels c.args.number c.args.place.now (state_of c.args.shot.now) c.requires.lawful c.requires.counted
     c.requires.room) in
     room
 
@@ -138,13 +141,13 @@ pub returns : goal.returns
 returns t c =
     let tree = c.args.tree.now in
     let count = count_of c.args.tree.now c.args.counts.now.list in
-    let items = c.as_slice-seat-items.ensures ∙ seats_are tree count c.args.number c.template_of-template.result
-    c.template_of-template.ensures.kind c.args.place.now c.args.place.now refl _ c.in_ok-seats.ensures in
-    let all = items_end tree count c.args.levels c.args.number c.args.place.now (state_of c.args.snapshot.now) c.requires.lawful
-    c.requires.counted c.as_slice-seat-items.result.now items c.loop-seat.seat-index c.loop-seat.proc c.loop-seat.chan c.loop-seat.inner
-    c.loop-seat.invariant (omega (arith, c.loop-seat-test.false)) in
-    c.ending_at.ensures ((kind_at tree count c.args.number).finds tree c.args.place.now (state_of c.args.snapshot.now) c.loop-seat.inner)
+    let items = c.as_slice-slot-items.ensures ∙ slots_are tree count c.args.number c.template_of-template.result
+    c.template_of-template.ensures.kind c.args.place.now c.args.place.now refl _ c.in_ok-slots.ensures in
+    let all = items_end tree count c.args.levels c.args.number c.args.place.now (state_of c.args.shot.now) c.requires.lawful
+    c.requires.counted c.as_slice-slot-items.result.now items c.loop-slot.slot-index c.loop-slot.proc c.loop-slot.chan c.loop-slot.inner
+    c.loop-slot.invariant (omega (arith, c.loop-slot-test.false)) in
+    c.ending_at.ensures ((kind_at tree count c.args.number).finds tree c.args.place.now (state_of c.args.shot.now) c.loop-slot.inner)
     (c.in_ok-own.ensures
-    ∙ ap₂ (λ (z : Kind) l. if_orderly (z.finds tree c.args.place.now (state_of c.args.snapshot.now) l)) c.template_of-template.ensures.kind c.as_slice.ensures)
-    ∙ own_found tree count c.args.levels c.args.number c.args.place.now (state_of c.args.snapshot.now) c.requires.lawful c.requires.counted
-    c.loop-seat.proc c.loop-seat.chan c.loop-seat.inner all
+    ∙ ap₂ (λ (z : Kind) l. if_orderly (z.finds tree c.args.place.now (state_of c.args.shot.now) l)) c.template_of-template.ensures.kind c.as_slice.ensures)
+    ∙ own_found tree count c.args.levels c.args.number c.args.place.now (state_of c.args.shot.now) c.requires.lawful c.requires.counted
+    c.loop-slot.proc c.loop-slot.chan c.loop-slot.inner all

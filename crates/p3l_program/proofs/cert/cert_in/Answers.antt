@@ -1,12 +1,12 @@
 use Rattle.std.proofs.Common.{subst, sym}
+use Rattle.p3l_io.specs.Change.{change}
 use Rattle.p3l_program.specs.LoadCert.{AcceptsCert, IsCertless}
-use Rattle.p3l_program.specs.World.{files_change}
 use Rattle.p3l_program.proofs.CertSteps.{cert_unreadable}
 use Rattle.p3l_program.proofs.cert.cert_in.Goals as goal
 
 pub returns-in-Err-clause-refused : goal.returns-in-Err-clause-refused
 returns-in-Err-clause-refused g c =
-    let files = files_change g.F.Files.held g.F.Files.faults g.F.Files.failed c.args.files.now c.find_text.new.files in
+    let files = change (g.F.Files.observed c.args.files.now) (g.F.Files.observed c.find_text.new.files) in
     subst (λ v. IsCertless files c.args.name c.args.tree.now c.args.costs.now v) (sym c.from.ensures) (cert_unreadable files c.args.name c.args.tree.now c.args.costs.now c.in-Err.refusal c.in-Err.ensures.refused)
 
 pub returns-in-Ok-accept_cert-clause-loaded : goal.returns-in-Ok-accept_cert-clause-loaded

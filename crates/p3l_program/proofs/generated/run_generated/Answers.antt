@@ -1,8 +1,8 @@
 use Rattle.std.proofs.Common.{Ok, ◌<◌, ◌≤◌, ◌^◌, arith, inl, length, refl, subst, sym}
 use Rattle.p3l_gen.specs.Texts.{costs_text, program_text}
+use Rattle.p3l_io.specs.Change.{change}
 use Rattle.p3l_program.specs.Generated.{gen_of, saves_with}
 use Rattle.p3l_program.specs.Saved.{HasSaves}
-use Rattle.p3l_program.specs.World.{change, files_change}
 use Rattle.p3l_program.proofs.GenLengths.{program_short, stream_short}
 use Rattle.p3l_program.proofs.GenSteps.{generated_expected}
 use Rattle.p3l_program.proofs.generated.run_generated.Goals as goal
@@ -15,8 +15,8 @@ run_texts-requires-clause-short g c = subst (λ t. length t < 2 ^ 36) (sym c.in-
 
 pub returns-in-Ok-save_where : goal.returns-in-Ok-save_where
 returns-in-Ok-save_where g c =
-    let files = files_change g.F.Files.held g.F.Files.faults g.F.Files.failed c.args.files.now c.save_where.new.files in
-    let out = change g.K.Sink.taken g.K.Sink.faults c.args.out.now c.run_texts.new.out in
+    let files = change (g.F.Files.observed c.args.files.now) (g.F.Files.observed c.save_where.new.files) in
+    let out = change (g.K.Sink.observed c.args.out.now) (g.K.Sink.observed c.run_texts.new.out) in
     let q = gen_of c.args.number c.args.processors c.args.items c.args.request c.args.prefix in
     let texts = c.in-Ok.texts in
     let made = c.in-Ok.ensures in

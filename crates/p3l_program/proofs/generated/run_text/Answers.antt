@@ -1,4 +1,4 @@
-use Rattle.std.proofs.Common.{ap, refl, Some, subst, sym, ◌∙◌, arith}
+use Rattle.std.proofs.Common.{refl, subst, sym, ◌∙◌, arith}
 use Rattle.p3l_skel.specs.Counts.{HasLawfulCounts}
 use Rattle.p3l_skel.specs.Lawful.{IsLawfulTree}
 use Rattle.p3l_skel.specs.Tree.{GivesOuts}
@@ -21,7 +21,7 @@ run-requires-clause-sound c =
     let fit = subst (λ t. HasLawfulCounts t counts) (sym ready.compiled.tree_is) ready.fit in
     let gives = subst (λ t. GivesOuts t (leaf c.in-Ok.units)) c.in-Ok.ensures.tree (gives_outs c.in-Ok.units) in
     subst IsSound (sym c.plan_of-plan.ensures.network)
-    (sound c.every_linked_net_is_carried.ensures tree (leaf c.in-Ok.units) counts gen_capacity c.in-Ok-link.net (firings tree counts) lawful fit (omega arith) gives
+    (sound c.every_linked_net_has_invariants.ensures tree (leaf c.in-Ok.units) counts gen_capacity c.in-Ok-link.net (firings tree counts) lawful fit (omega arith) gives
     c.in-Ok-link.ensures.net c.in-Ok-link.ensures.typed refl)
 
 pub returns-in-Ok-run-clause-ran : goal.returns-in-Ok-run-clause-ran
@@ -37,5 +37,5 @@ returns-in-Ok-run-clause-ran c = λ r compiled.
     c.plan_of-plan.ensures.network
     ∙ compiled_network r tree (leaf c.in-Ok.units) c.in-Ok-link.net (firings tree counts) counts gen_capacity compiled.tree_is (c.in-Ok.ensures.leaf r.seqs bodies compiled.codes)
     c.in-Ok-link.ensures.net refl in
-    let on : IsRanOn here s c.args.text ran.finish ran.stats ran.sum = ran_on here refl s c.args.text _ _ _ _ ran (ap Some c.new-input.ensures) c.requires.short c.in-Ok-run.ensures.ends in
+    let on : IsRanOn here s c.args.text ran.finish ran.stats ran.sum = ran_on here refl s c.args.text _ _ _ ran c.new-input.ensures c.requires.short c.in-Ok-run.ensures.ends in
     record { s = s; picked = c.schedule_of.ensures; on = subst (λ n. IsRanOn n s c.args.text ran.finish ran.stats ran.sum) same on }

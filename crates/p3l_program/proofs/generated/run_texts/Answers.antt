@@ -1,24 +1,24 @@
 use Rattle.std.proofs.Common.{refl, sym, subst, ◌∙◌}
 use Rattle.p3l_gen.specs.Texts.{costs_text, program_text}
+use Rattle.p3l_io.specs.Change.{change}
 use Rattle.p3l_program.specs.Generated.{AreNotLoaded, IsLineOf, IsRanUnder, LoadsTexts, gen_capacity, line_at, summary_line}
 use Rattle.p3l_program.specs.Plan.{network_of}
-use Rattle.p3l_program.specs.World.{change}
 use Rattle.p3l_program.proofs.GenSteps.{gen_line, gen_refused, generated_by, texts_pass}
 use Rattle.p3l_program.proofs.generated.run_texts.Goals as goal
 
 pub returns-in-Err-clause-ran : goal.returns-in-Err-clause-ran
 returns-in-Err-clause-ran g c = λ q texts number processors request.
-    let out = change g.K.Sink.taken g.K.Sink.faults c.args.out.now c.args.out.now in
+    let out = change (g.K.Sink.observed c.args.out.now) (g.K.Sink.observed c.args.out.now) in
     let v = c.in-Err.verdict in
     let costs = c.as_slice-2.result.now in
     let one = subst (λ p. AreNotLoaded p costs c.args.processors v) (c.as_slice.ensures ∙ texts.program_is) c.in-Err.ensures.refused in
     let two = subst (λ t. AreNotLoaded (program_text q.number) t c.args.processors v) (c.as_slice-2.ensures ∙ texts.costs_are) one in
     let here = subst (λ k. AreNotLoaded (program_text q.number) costs_text k v) (sym processors) two in
-    gen_refused out q v (record { known = refl; calm = refl }) here
+    gen_refused out q v (record { same_content = refl; same_faults = refl }) here
 
 pub returns-in-Ok-run_text-clause-ran : goal.returns-in-Ok-run_text-clause-ran
 returns-in-Ok-run_text-clause-ran g c = λ q texts number processors request.
-    let out = change g.K.Sink.taken g.K.Sink.faults c.args.out.now c.put_summary.new.out in
+    let out = change (g.K.Sink.observed c.args.out.now) (g.K.Sink.observed c.put_summary.new.out) in
     let loaded = c.in-Ok.loaded in
     let ran = c.in-Ok-run_text.ran in
     let costs = c.as_slice-2.result.now in

@@ -10,7 +10,7 @@ use Rattle.p3l_program.proofs.image.load_image.Goals as goal
 
 pub returns-in-Ok-clause-network : goal.returns-in-Ok-clause-network
 returns-in-Ok-clause-network g c =
-    let files = g.F.Files.held c.args.files.now in
+    let files = (g.F.Files.observed c.args.files.now).content in
     let bytes = c.in-Ok.bytes in
     let loads = subst (λ (b : List ℕ). IfOk c.load_bytes.result (LoadsBytes b)) c.as_slice.ensures c.load_bytes.ensures.loaded in
     IfOk-weaker c.load_bytes.result (LoadsBytes bytes) (λ (l : Loaded). LoadsNetwork files (imaged c.args.name) (network_in l))

@@ -12,7 +12,7 @@ returns-in-Ok-clause-loaded g c =
     let same = c.in-Ok.ensures.network loads.r loads.is.comes.compiled in
     let tree = c.in-Ok.ensures.tree in
     let costs = c.in-Ok.ensures.costs in record {
-      network = program_network (g.F.Files.held c.args.files.now) c.args.build loads.r c.in_ok-allotted.allotted loads.is (network_in linked.network) same;
-      priced = loaded_prices (g.F.Files.held c.args.files.now) c.args.build c.in_ok-allotted.allotted loads.r loads.is (network_in linked.network) linked.network.tree linked.network.net linked.costs same refl refl costs;
+      network = program_network (g.F.Files.observed c.args.files.now).content c.args.build loads.r c.in_ok-allotted.allotted loads.is (network_in linked.network) same;
+      priced = loaded_prices (g.F.Files.observed c.args.files.now).content c.args.build c.in_ok-allotted.allotted loads.r loads.is (network_in linked.network) linked.network.tree linked.network.net linked.costs same refl refl costs;
       lawful = subst (λ t. AreCostsOf t linked.costs) (sym (tree ∙ loads.is.comes.compiled.tree_is)) (subst (λ x. AreCostsOf loads.r.tree x) (sym costs) loads.is.lawful);
     }

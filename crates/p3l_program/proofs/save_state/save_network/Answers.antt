@@ -1,10 +1,9 @@
-use Rattle.std.proofs.Common.{refl, subst, sym, ◌∙◌}
+use Rattle.std.proofs.Common.{refl, subst, sym, ◌∙◌, ap}
+use Rattle.p3l_io.specs.Change.{change}
 use Rattle.p3l_run.specs.Network.{IsSound, Network}
 use Rattle.p3l_skel.specs.Numbers.{firings}
 use Rattle.p3l_program.specs.Plan.{network_in}
 use Rattle.p3l_program.specs.SaveState.{IsReached, IsWriting}
-use Rattle.p3l_program.specs.World.{change, files_change}
-use Rattle.p3l_program.proofs.LoadSteps.{same_change}
 use Rattle.p3l_program.proofs.SaveStateSteps.{fits_some, save_reached, sound_shot}
 use Rattle.p3l_program.proofs.SoundSteps.{loaded_network, loaded_sound}
 use Rattle.p3l_program.proofs.save_state.save_network.Goals as goal
@@ -13,14 +12,14 @@ pub reach-requires-clause-sound : goal.reach-requires-clause-sound
 reach-requires-clause-sound g c =
     let loaded = c.args.imaged.network in
     let bound = firings loaded.tree loaded.counts.list in
-    subst IsSound (sym c.plan_of-plan.ensures.network) (loaded_sound loaded c.requires.ready.ready c.in-Ok.units c.in-Ok.ensures bound refl c.every_linked_net_is_carried.ensures)
+    subst IsSound (sym c.plan_of-plan.ensures.network) (loaded_sound loaded c.requires.ready.ready c.in-Ok.units c.in-Ok.ensures bound refl c.every_linked_net_has_invariants.ensures)
 
 pub write_snapshot-requires-clause-fits : goal.write_snapshot-requires-clause-fits
 write_snapshot-requires-clause-fits g c =
     let loaded = c.args.imaged.network in
-    let files = files_change g.F.Files.held g.F.Files.faults g.F.Files.failed c.args.files.now c.reach.new.files in
-    let input = change g.S.Source.rest g.S.Source.faults c.args.input.now c.reach.new.input in
-    let out = change g.K.Sink.taken g.K.Sink.faults c.args.out.now c.reach.new.out in
+    let files = change (g.F.Files.observed c.args.files.now) (g.F.Files.observed c.reach.new.files) in
+    let input = change (g.S.Source.observed c.args.input.now) (g.S.Source.observed c.reach.new.input) in
+    let out = change (g.K.Sink.observed c.args.out.now) (g.K.Sink.observed c.reach.new.out) in
     let bound = firings loaded.tree loaded.counts.list in
     let same = c.plan_of-plan.ensures.network ∙ loaded_network loaded c.requires.ready.ready c.in-Ok.units c.in-Ok.ensures bound refl in
     let reached = subst (λ n. IsReached n files input out c.args.name c.in-Ok-reach.checkpoint) same c.in-Ok-reach.ensures.reached in
@@ -29,18 +28,16 @@ write_snapshot-requires-clause-fits g c =
 pub returns-clause-saved : goal.returns-clause-saved
 returns-clause-saved g c =
     let loaded = c.args.imaged.network in
-    let held = g.F.Files.held in
-    let faults = g.F.Files.faults in
-    let failed = g.F.Files.failed in
-    let end = c.write_snapshot.new.files in
-    let files = files_change held faults failed c.args.files.now end in
-    let input = change g.S.Source.rest g.S.Source.faults c.args.input.now c.reach.new.input in
-    let out = change g.K.Sink.taken g.K.Sink.faults c.args.out.now c.reach.new.out in
+    let observed = g.F.Files.observed in
+    let end = observed c.write_snapshot.new.files in
+    let files = change (observed c.args.files.now) end in
+    let input = change (g.S.Source.observed c.args.input.now) (g.S.Source.observed c.reach.new.input) in
+    let out = change (g.K.Sink.observed c.args.out.now) (g.K.Sink.observed c.reach.new.out) in
     let bound = firings loaded.tree loaded.counts.list in
     let same = c.plan_of-plan.ensures.network ∙ loaded_network loaded c.requires.ready.ready c.in-Ok.units c.in-Ok.ensures bound refl in
-    let there = subst (λ (n : Network). IsReached n (files_change held faults failed c.args.files.now c.reach.new.files) input out c.args.name c.in-Ok-reach.checkpoint) same c.in-Ok-reach.ensures.reached in
+    let there = subst (λ (n : Network). IsReached n (change (observed c.args.files.now) (observed c.reach.new.files)) input out c.args.name c.in-Ok-reach.checkpoint) same c.in-Ok-reach.ensures.reached in
     let reached : IsReached (network_in loaded) files input out c.args.name c.in-Ok-reach.checkpoint = record { picks = there.picks; picks_are = there.picks_are; comes = there.comes } in
-    let files_same = same_change (held c.reach.new.files) (held c.args.files.now) (held end) (faults c.reach.new.files) (faults c.args.files.now) (faults end) (failed end) c.reach.ensures.stays c.in-Ok-reach.ensures.calm.0 in
+    let files_same = ap (λ o. change o end) c.in-Ok-reach.ensures.unchanged in
     let writing = subst (λ f. IsWriting f c.in-Ok-reach.checkpoint c.args.imaged.image c.args.output c.write_snapshot.result) files_same c.write_snapshot.ensures.written in
     let sound = sound_shot loaded c.requires.ready.ready c.every_saved_shot_is_sound.ensures c.every_table_names_modules.ensures files input out c.args.name c.in-Ok-reach.checkpoint reached in
-    save_reached (network_in loaded) loaded.counts.list loaded.cap c.args.imaged.image files input out c.args.name c.args.output c.in-Ok-reach.checkpoint reached sound c.in-Ok-reach.ensures.calm.1 c.write_snapshot.result writing
+    save_reached (network_in loaded) loaded.counts.list loaded.cap c.args.imaged.image files input out c.args.name c.args.output c.in-Ok-reach.checkpoint reached sound c.in-Ok-reach.ensures.same_faults c.write_snapshot.result writing

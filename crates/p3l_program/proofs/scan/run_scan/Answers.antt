@@ -1,10 +1,10 @@
 use Rattle.std.proofs.Common.{None, subst, sym, ap, ◌∙◌}
 use Rattle.p3l_compile.specs.Leaves.{AreBodies}
+use Rattle.p3l_io.specs.Change.{change}
 use Rattle.p3l_run.specs.Network.{IsSound, Network}
 use Rattle.p3l_scan.specs.Planned.{IsPlanOf}
 use Rattle.p3l_skel.specs.Lawful.{IsLawfulTree}
 use Rattle.p3l_program.specs.Run.{IsRunOf, KeepsRun}
-use Rattle.p3l_program.specs.World.{change, files_change}
 use Rattle.p3l_program.proofs.ScanSteps.{scan_sound, units_network}
 use Rattle.p3l_program.proofs.scan.run_scan.Goals as goal
 
@@ -22,13 +22,13 @@ new-requires-clause-planned g c =
 pub run_plan-requires-clause-sound : goal.run_plan-requires-clause-sound
 run_plan-requires-clause-sound g c =
     subst IsSound (sym c.plan_of-run.ensures.network)
-    (scan_sound c.args.loaded.plan c.requires.ready.runs c.args.capacity c.requires.capacity.0 c.in-Ok-new.units c.in-Ok-new.ensures.tree c.in-Ok.net c.in-Ok.ensures.net c.every_linked_net_is_carried.ensures c.in-Ok.ensures.typed)
+    (scan_sound c.args.loaded.plan c.requires.ready.runs c.args.capacity c.requires.capacity.0 c.in-Ok-new.units c.in-Ok-new.ensures.tree c.in-Ok.net c.in-Ok.ensures.net c.every_linked_net_has_invariants.ensures c.in-Ok.ensures.typed)
 
 pub returns-clause-ran : goal.returns-clause-ran
 returns-clause-ran g c = λ r compiled.
-    let files = files_change g.F.Files.held g.F.Files.faults g.F.Files.failed c.args.files.now c.run_plan.new.files in
-    let input = change g.S.Source.rest g.S.Source.faults c.args.input.now c.run_plan.new.input in
-    let out = change g.K.Sink.taken g.K.Sink.faults c.args.out.now c.run_plan.new.out in
+    let files = change (g.F.Files.observed c.args.files.now) (g.F.Files.observed c.run_plan.new.files) in
+    let input = change (g.S.Source.observed c.args.input.now) (g.S.Source.observed c.run_plan.new.input) in
+    let out = change (g.K.Sink.observed c.args.out.now) (g.K.Sink.observed c.run_plan.new.out) in
     let plan = c.args.loaded.plan in
     let tree = c.args.loaded.program.tree in
     let bodies = subst (λ t. AreBodies t r.seqs) (sym compiled.tree_is) compiled.bodies in
@@ -40,9 +40,9 @@ returns-clause-ran g c = λ r compiled.
 
 pub returns-clause-kept : goal.returns-clause-kept
 returns-clause-kept g c = λ r compiled.
-    let files = files_change g.F.Files.held g.F.Files.faults g.F.Files.failed c.args.files.now c.run_plan.new.files in
-    let input = change g.S.Source.rest g.S.Source.faults c.args.input.now c.run_plan.new.input in
-    let out = change g.K.Sink.taken g.K.Sink.faults c.args.out.now c.run_plan.new.out in
+    let files = change (g.F.Files.observed c.args.files.now) (g.F.Files.observed c.run_plan.new.files) in
+    let input = change (g.S.Source.observed c.args.input.now) (g.S.Source.observed c.run_plan.new.input) in
+    let out = change (g.K.Sink.observed c.args.out.now) (g.K.Sink.observed c.run_plan.new.out) in
     let plan = c.args.loaded.plan in
     let tree = c.args.loaded.program.tree in
     let bodies = subst (λ t. AreBodies t r.seqs) (sym compiled.tree_is) compiled.bodies in

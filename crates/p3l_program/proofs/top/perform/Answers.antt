@@ -12,8 +12,8 @@ pub returns-in-Err-Usage-clause-expected : goal.returns-in-Err-Usage-clause-expe
 returns-in-Err-Usage-clause-expected g c = inr (inl (record {
   verdict_is = refl;
   none = c.parse.ensures.usage (c.in-Err-Usage.is ∙ ap Err c.in-Err-Usage.field-0-is);
-  untouched = record { input = record { known = refl; calm = refl }; out = record { known = refl; calm = refl } };
-  files = record { known = refl; calm = refl };
+  untouched = record { input = record { same_content = refl; same_faults = refl }; output = record { same_content = refl; same_faults = refl } };
+  files = record { same_content = refl; same_faults = refl };
 }))
 
 pub returns-in-Ok-Check-clause-expected : goal.returns-in-Ok-Check-clause-expected
@@ -21,14 +21,14 @@ unfolding work_of
 returns-in-Ok-Check-clause-expected g c =
     let request = c.in-Ok-Check in
     let spelled : Spells (texts_of c.args.words.now) (command.Check request.program) = search (rules, request.ensures.spelled) in
-    text_requested spelled refl c.check.ensures.expected c.check.ensures.stays
+    text_requested spelled refl c.check.ensures.expected c.check.ensures.same_files
 
 pub returns-in-Ok-Fmt-clause-expected : goal.returns-in-Ok-Fmt-clause-expected
 unfolding work_of
 returns-in-Ok-Fmt-clause-expected g c =
     let request = c.in-Ok-Fmt in
     let spelled : Spells (texts_of c.args.words.now) (command.Fmt request.program) = search (rules, request.ensures.spelled) in
-    text_requested spelled refl c.fmt.ensures.expected c.fmt.ensures.stays
+    text_requested spelled refl c.fmt.ensures.expected c.fmt.ensures.same_files
 
 pub returns-in-None-clause-expected : goal.returns-in-None-clause-expected
 unfolding work_of
@@ -36,7 +36,7 @@ returns-in-None-clause-expected g c =
     let words = texts_of c.args.words.now in
     let request = subst (λ k. Spells words k) c.in-Ok-Explain.field-0-is c.in-Ok-Explain.ensures.spelled in
     let spelled = subst (λ cert. Spells words (command.Explain c.in-Ok-Explain.build cert)) c.in-None.is request in
-    text_requested spelled refl c.explain.ensures.expected c.explain.ensures.stays
+    text_requested spelled refl c.explain.ensures.expected c.explain.ensures.same_files
 
 pub returns-in-Some-clause-expected : goal.returns-in-Some-clause-expected
 unfolding work_of
@@ -51,21 +51,21 @@ unfolding work_of
 returns-in-Ok-Advise-clause-expected g c =
     let request = c.in-Ok-Advise in
     let spelled : Spells (texts_of c.args.words.now) (command.Advise request.build request.processes) = search (rules, request.ensures.spelled) in
-    text_requested spelled refl c.advise.ensures.expected c.advise.ensures.stays
+    text_requested spelled refl c.advise.ensures.expected c.advise.ensures.same_files
 
 pub returns-in-Ok-Compile-clause-expected : goal.returns-in-Ok-Compile-clause-expected
 unfolding work_of
 returns-in-Ok-Compile-clause-expected g c =
     let request = c.in-Ok-Compile in
     let spelled : Spells (texts_of c.args.words.now) (command.Compile request.build request.output) = search (rules, request.ensures.spelled) in
-    file_requested spelled refl (record { known = refl; calm = refl }) c.compile.ensures.expected c.compile.ensures.kept
+    file_requested spelled refl (record { same_content = refl; same_faults = refl }) c.compile.ensures.expected c.compile.ensures.kept
 
 pub returns-in-Ok-Migrate-clause-expected : goal.returns-in-Ok-Migrate-clause-expected
 unfolding work_of
 returns-in-Ok-Migrate-clause-expected g c =
     let request = c.in-Ok-Migrate in
     let spelled : Spells (texts_of c.args.words.now) (command.Migrate request.image request.output) = search (rules, request.ensures.spelled) in
-    file_requested spelled refl (record { known = refl; calm = refl }) c.migrate.ensures.expected c.migrate.ensures.kept
+    file_requested spelled refl (record { same_content = refl; same_faults = refl }) c.migrate.ensures.expected c.migrate.ensures.kept
 
 pub export-requires-clause-capacity : goal.export-requires-clause-capacity
 export-requires-clause-capacity g c =
@@ -78,14 +78,14 @@ unfolding work_of
 returns-in-Ok-Export-clause-expected g c =
     let request = c.in-Ok-Export in
     let spelled : Spells (texts_of c.args.words.now) (command.Export request.exported request.output) = search (rules, request.ensures.spelled) in
-    file_requested spelled refl (record { known = refl; calm = refl }) c.export.ensures.expected c.export.ensures.kept
+    file_requested spelled refl (record { same_content = refl; same_faults = refl }) c.export.ensures.expected c.export.ensures.kept
 
 pub returns-in-Ok-Graph-clause-expected : goal.returns-in-Ok-Graph-clause-expected
 unfolding work_of
 returns-in-Ok-Graph-clause-expected g c =
     let request = c.in-Ok-Graph in
     let spelled : Spells (texts_of c.args.words.now) (command.Graph request.build) = search (rules, request.ensures.spelled) in
-    text_requested spelled refl c.graph.ensures.expected c.graph.ensures.stays
+    text_requested spelled refl c.graph.ensures.expected c.graph.ensures.same_files
 
 pub returns-in-Ok-Run-clause-expected : goal.returns-in-Ok-Run-clause-expected
 unfolding work_of
@@ -99,7 +99,7 @@ unfolding work_of
 returns-in-Ok-VerifyCert-clause-expected g c =
     let request = c.in-Ok-VerifyCert in
     let spelled : Spells (texts_of c.args.words.now) (command.VerifyCert request.program request.cert request.costs) = search (rules, request.ensures.spelled) in
-    text_requested spelled refl c.verify_cert.ensures.expected c.verify_cert.ensures.stays
+    text_requested spelled refl c.verify_cert.ensures.expected c.verify_cert.ensures.same_files
 
 pub returns-in-Ok-Exec-clause-expected : goal.returns-in-Ok-Exec-clause-expected
 unfolding work_of
@@ -113,7 +113,7 @@ unfolding work_of
 returns-in-Ok-CheckTrace-clause-expected g c =
     let request = c.in-Ok-CheckTrace in
     let spelled : Spells (texts_of c.args.words.now) (command.CheckTrace request.build request.trace) = search (rules, request.ensures.spelled) in
-    check_requested spelled refl c.check_trace.ensures.expected c.check_trace.ensures.stays
+    check_requested spelled refl c.check_trace.ensures.expected c.check_trace.ensures.same_files
 
 pub run_generated-requires-clause-items : goal.run_generated-requires-clause-items
 run_generated-requires-clause-items g c =
@@ -133,14 +133,14 @@ unfolding work_of
 returns-in-Ok-Rewrite-clause-expected g c =
     let request = c.in-Ok-Rewrite in
     let spelled : Spells (texts_of c.args.words.now) (command.Rewrite request.program request.processors request.costs) = search (rules, request.ensures.spelled) in
-    text_requested spelled refl c.rewrite.ensures.expected c.rewrite.ensures.stays
+    text_requested spelled refl c.rewrite.ensures.expected c.rewrite.ensures.same_files
 
 pub returns-in-Ok-Profile-clause-expected : goal.returns-in-Ok-Profile-clause-expected
 unfolding work_of
 returns-in-Ok-Profile-clause-expected g c =
     let request = c.in-Ok-Profile in
     let spelled : Spells (texts_of c.args.words.now) (command.Profile request.program) = search (rules, request.ensures.spelled) in
-    profile_requested spelled refl c.profile.ensures.expected c.profile.ensures.stays
+    profile_requested spelled refl c.profile.ensures.expected c.profile.ensures.same_files
 
 pub returns-in-Ok-Time-clause-expected : goal.returns-in-Ok-Time-clause-expected
 unfolding work_of

@@ -1,6 +1,6 @@
 use Rattle.std.proofs.Common.{◌+◌, ◌-◌, sym, ap₂, ◌∙◌, arith}
 use Rattle.p3l_reduce.specs.JoinTree.{matched}
-use Rattle.p3l_template.specs.Snapshot.{state_of}
+use Rattle.p3l_firing.specs.Shot.{state_of}
 use Rattle.p3l_reduce.proofs.ReduceSteps.{IsFlow, segment_place, join_place, no_list, segment_found, none_on_left, none_on_right, flow_found, none_matched, left_found}
 use Rattle.p3l_reduce.proofs.found.+to_come.Goals as goal
 
@@ -15,7 +15,7 @@ from_segment-requires-clause-segment t c =
 
 pub returns-then-depth-eq0 : goal.returns-then-depth-eq0
 returns-then-depth-eq0 t c =
-    segment_found c.args.count c.args.place.now (state_of c.args.snapshot.now) c.args.depth c.args.q c.in_ok-list.list
+    segment_found c.args.count c.args.place.now (state_of c.args.shot.now) c.args.depth c.args.q c.in_ok-list.list
     c.if-depth-eq0.true c.in_ok-list.ensures
 
 pub overflow_add-q : goal.overflow_add-q
@@ -51,36 +51,36 @@ overflow_add-q-6 t c =
 pub to_come-requires : goal.to_come-requires
 to_come-requires t c =
     let j = join_place c.args.count c.args.depth c.args.q c.if-depth-eq0.false c.requires.places in
-    (omega (arith, c.decreases, c.if-depth-eq0.false), (c.requires.chans, (c.requires.count, j.left)))
+    (omega (arith, c.decreases, c.if-depth-eq0.false), (c.requires.chans, (c.requires.count, (j.left, c.requires.few))))
 
 pub returns-in_default : goal.returns-in_default
 returns-in_default t c =
-    none_on_left c.args.count c.args.place.now (state_of c.args.snapshot.now) c.args.depth c.args.q c.if-depth-eq0.false
+    none_on_left c.args.count c.args.place.now (state_of c.args.shot.now) c.args.depth c.args.q c.if-depth-eq0.false
     (sym (no_list c.in_ok-to_left.field-0 c.in_default.not-Some) ∙ c.in_ok-to_left.ensures)
 
 pub to_come-requires-2 : goal.to_come-requires-2
 to_come-requires-2 t c =
     let j = join_place c.args.count c.args.depth c.args.q c.if-depth-eq0.false c.requires.places in
-    (omega (arith, c.decreases, c.if-depth-eq0.false), (c.requires.chans, (c.requires.count, j.right)))
+    (omega (arith, c.decreases, c.if-depth-eq0.false), (c.requires.chans, (c.requires.count, (j.right, c.requires.few))))
 
 pub returns-in_default-2 : goal.returns-in_default-2
 returns-in_default-2 t c =
-    none_on_right c.args.count c.args.place.now (state_of c.args.snapshot.now) c.args.depth c.args.q c.if-depth-eq0.false
+    none_on_right c.args.count c.args.place.now (state_of c.args.shot.now) c.args.depth c.args.q c.if-depth-eq0.false
     (sym (no_list c.in_ok-to_right.field-0 c.in_default-2.not-Some) ∙ c.in_ok-to_right.ensures)
 
-pub flow_of-requires : goal.flow_of-requires
-flow_of-requires t c =
+pub flow_of-requires-clause-chans : goal.flow_of-requires-clause-chans
+flow_of-requires-clause-chans t c =
     let j = join_place c.args.count c.args.depth c.args.q c.if-depth-eq0.false c.requires.places in
     omega (arith, c.requires.chans, c.requires.count, j.below)
 
-pub flow_of-requires-2 : goal.flow_of-requires-2
-flow_of-requires-2 t c =
+pub flow_of-requires-2-clause-chans : goal.flow_of-requires-2-clause-chans
+flow_of-requires-2-clause-chans t c =
     let j = join_place c.args.count c.args.depth c.args.q c.if-depth-eq0.false c.requires.places in
     omega (arith, c.requires.chans, c.requires.count, j.below)
 
 pub returns-then-not-are_matched : goal.returns-then-not-are_matched
 returns-then-not-are_matched t c =
-    let s = state_of c.args.snapshot.now in
+    let s = state_of c.args.shot.now in
     let base = c.args.place.now in
     let m = c.args.count in
     let d = c.args.depth - 1 in
@@ -94,7 +94,7 @@ returns-then-not-are_matched t c =
 
 pub returns : goal.returns
 returns t c =
-    let s = state_of c.args.snapshot.now in
+    let s = state_of c.args.shot.now in
     let base = c.args.place.now in
     let m = c.args.count in
     let d = c.args.depth - 1 in

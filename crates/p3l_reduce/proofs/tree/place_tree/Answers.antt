@@ -1,4 +1,4 @@
--- What was added, call by call.
+-- The elements added so far, call by call.
 use Rattle.std.proofs.Common.{◌≡◌, ◌+◌, ◌-◌, ◌^◌, suc, length, ◌++◌, replicate, ap, ap₂, ◌∙◌, length-append, arith}
 use Rattle.p3l_firing.specs.declared.net.Net.{Net}
 use Rattle.p3l_firing.specs.declared.process.ProcKind.TheVariants.{Split}

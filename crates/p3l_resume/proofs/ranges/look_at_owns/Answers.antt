@@ -1,5 +1,5 @@
 use Rattle.std.proofs.Common.{subst, arith}
-use Rattle.p3l_net.specs.declared.shot.Own.{Own}
+use Rattle.p3l_firing.specs.declared.shot.Own.{Own}
 use Rattle.p3l_resume.specs.Ranges.{AreInRange}
 use Rattle.p3l_resume.proofs.Seen.{all_seen, one_more}
 use Rattle.p3l_resume.proofs.ranges.look_at_owns.Goals as goal

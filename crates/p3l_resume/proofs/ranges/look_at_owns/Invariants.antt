@@ -1,6 +1,6 @@
 use Rattle.std.proofs.Common.{take}
 use Rattle.std.specs.List.{All}
-use Rattle.p3l_net.specs.declared.shot.Own.{Own}
+use Rattle.p3l_firing.specs.declared.shot.Own.{Own}
 use Rattle.p3l_resume.specs.Ranges.{AreInRange}
 use Rattle.p3l_resume.proofs.ranges.look_at_owns.Given as goal
 

@@ -2,21 +2,21 @@ use Rattle.std.proofs.Common.{ℕ, List, refl, sym, subst}
 use Rattle.std.proofs.lemmas.Result.{err_from_is_err_and}
 use Rattle.p3l_sched.specs.declared.schedule.Schedule.TheVariants as schedules
 use Rattle.p3l_run.specs.declared.keeping.Keeping.TheVariants.{Nothing}
-use Rattle.p3l_run.specs.Execution.{Outside, outside}
 use Rattle.p3l_run.specs.Network.{network}
 use Rattle.p3l_run.specs.Replay.{Halts, IsToReplay, Opens, Replay, replay_of}
+use Rattle.p3l_run.specs.Streams.{Streams, streams}
 use Rattle.p3l_run.proofs.ReplaySteps.{comes_early, comes_unstarted, opens_first}
 use Rattle.p3l_run.proofs.checkpoint.run_to_checkpoint.Goals as goal
 
 pub returns-in_err-execution-clause-ends : goal.returns-in_err-execution-clause-ends
 returns-in_err-execution-clause-ends g c =
-    let r : Replay = replay_of (network c.args.plan.tree.now (g.U.Units.leaf c.args.plan.units.now) c.args.plan.net c.args.plan.firings) c.args.picks (outside (g.S.Source.rest c.args.input.now) (g.S.Source.faults c.args.input.now) (g.K.Sink.taken c.args.out.now) (g.K.Sink.faults c.args.out.now)) in
+    let r : Replay = replay_of (network c.args.plan.tree.now (g.U.Units.leaf c.args.plan.units.now) c.args.plan.net c.args.plan.firings) c.args.picks (streams (g.S.Source.observed c.args.input.now) (g.K.Sink.observed c.args.out.now)) in
     let p = err_from_is_err_and c.from_residual.result c.from_residual.ensures.1 in
     rw p.1 (comes_unstarted r (c.a_stream_gives_its_items.ensures.starts _ _)).ends
 
 pub replay-requires-clause-replay : goal.replay-requires-clause-replay
 replay-requires-clause-replay g c =
-    let before : Outside = outside (g.S.Source.rest c.args.input.now) (g.S.Source.faults c.args.input.now) (g.K.Sink.taken c.args.out.now) (g.K.Sink.faults c.args.out.now) in
+    let before : Streams = streams (g.S.Source.observed c.args.input.now) (g.K.Sink.observed c.args.out.now) in
     let r : Replay = replay_of (network c.args.plan.tree.now (g.U.Units.leaf c.args.plan.units.now) c.args.plan.net c.args.plan.firings) c.args.picks before in
     let opens : Opens r c.args.picks before c.in_ok-execution.execution =
     opens_first c.args.plan.tree.now (g.U.Units.leaf c.args.plan.units.now) c.args.plan.net c.args.plan.firings c.args.picks before (c.laws.ensures _ c.requires.sound) c.requires.few c.requires.named (c.a_stream_gives_its_items.ensures.starts _ _) c.args.plan.width c.requires.width (schedules.Recorded c.new.result) Nothing c.in_ok-execution.execution c.in_ok-execution.ensures in
@@ -24,7 +24,7 @@ replay-requires-clause-replay g c =
 
 pub returns-in_err-replay-clause-ends : goal.returns-in_err-replay-clause-ends
 returns-in_err-replay-clause-ends g c =
-    let before : Outside = outside (g.S.Source.rest c.args.input.now) (g.S.Source.faults c.args.input.now) (g.K.Sink.taken c.args.out.now) (g.K.Sink.faults c.args.out.now) in
+    let before : Streams = streams (g.S.Source.observed c.args.input.now) (g.K.Sink.observed c.args.out.now) in
     let r : Replay = replay_of (network c.args.plan.tree.now (g.U.Units.leaf c.args.plan.units.now) c.args.plan.net c.args.plan.firings) c.args.picks before in
     let opens : Opens r c.args.picks before c.in_ok-execution.execution =
     opens_first c.args.plan.tree.now (g.U.Units.leaf c.args.plan.units.now) c.args.plan.net c.args.plan.firings c.args.picks before (c.laws.ensures _ c.requires.sound) c.requires.few c.requires.named (c.a_stream_gives_its_items.ensures.starts _ _) c.args.plan.width c.requires.width (schedules.Recorded c.new.result) Nothing c.in_ok-execution.execution c.in_ok-execution.ensures in
@@ -33,7 +33,7 @@ returns-in_err-replay-clause-ends g c =
 
 pub returns-in_err-replay-clause-output : goal.returns-in_err-replay-clause-output
 returns-in_err-replay-clause-output g c =
-    let before : Outside = outside (g.S.Source.rest c.args.input.now) (g.S.Source.faults c.args.input.now) (g.K.Sink.taken c.args.out.now) (g.K.Sink.faults c.args.out.now) in
+    let before : Streams = streams (g.S.Source.observed c.args.input.now) (g.K.Sink.observed c.args.out.now) in
     let r : Replay = replay_of (network c.args.plan.tree.now (g.U.Units.leaf c.args.plan.units.now) c.args.plan.net c.args.plan.firings) c.args.picks before in
     let opens : Opens r c.args.picks before c.in_ok-execution.execution =
     opens_first c.args.plan.tree.now (g.U.Units.leaf c.args.plan.units.now) c.args.plan.net c.args.plan.firings c.args.picks before (c.laws.ensures _ c.requires.sound) c.requires.few c.requires.named (c.a_stream_gives_its_items.ensures.starts _ _) c.args.plan.width c.requires.width (schedules.Recorded c.new.result) Nothing c.in_ok-execution.execution c.in_ok-execution.ensures in
@@ -42,19 +42,19 @@ returns-in_err-replay-clause-output g c =
 
 pub into_checkpoint-requires : goal.into_checkpoint-requires
 into_checkpoint-requires g c =
-    let before : Outside = outside (g.S.Source.rest c.args.input.now) (g.S.Source.faults c.args.input.now) (g.K.Sink.taken c.args.out.now) (g.K.Sink.faults c.args.out.now) in
+    let before : Streams = streams (g.S.Source.observed c.args.input.now) (g.K.Sink.observed c.args.out.now) in
     let r : Replay = replay_of (network c.args.plan.tree.now (g.U.Units.leaf c.args.plan.units.now) c.args.plan.net c.args.plan.firings) c.args.picks before in
     let opens : Opens r c.args.picks before c.in_ok-execution.execution =
     opens_first c.args.plan.tree.now (g.U.Units.leaf c.args.plan.units.now) c.args.plan.net c.args.plan.firings c.args.picks before (c.laws.ensures _ c.requires.sound) c.requires.few c.requires.named (c.a_stream_gives_its_items.ensures.starts _ _) c.args.plan.width c.requires.width (schedules.Recorded c.new.result) Nothing c.in_ok-execution.execution c.in_ok-execution.ensures in (
       r,
-      outside (g.S.Source.rest c.replay.new.input) (g.S.Source.faults c.replay.new.input) (g.K.Sink.taken c.replay.new.out) (g.K.Sink.faults c.replay.new.out),
+      streams (g.S.Source.observed c.replay.new.input) (g.K.Sink.observed c.replay.new.out),
       c.in_ok-replay.ensures.halts r refl (subst (λ (ps : List ℕ). Opens r ps before c.in_ok-execution.execution) (sym c.as_slice.ensures) opens),
     )
 
 pub returns-in_err-into_checkpoint-clause-ends : goal.returns-in_err-into_checkpoint-clause-ends
 returns-in_err-into_checkpoint-clause-ends g c =
-    let before : Outside = outside (g.S.Source.rest c.args.input.now) (g.S.Source.faults c.args.input.now) (g.K.Sink.taken c.args.out.now) (g.K.Sink.faults c.args.out.now) in
-    let now : Outside = outside (g.S.Source.rest c.replay.new.input) (g.S.Source.faults c.replay.new.input) (g.K.Sink.taken c.replay.new.out) (g.K.Sink.faults c.replay.new.out) in
+    let before : Streams = streams (g.S.Source.observed c.args.input.now) (g.K.Sink.observed c.args.out.now) in
+    let now : Streams = streams (g.S.Source.observed c.replay.new.input) (g.K.Sink.observed c.replay.new.out) in
     let r : Replay = replay_of (network c.args.plan.tree.now (g.U.Units.leaf c.args.plan.units.now) c.args.plan.net c.args.plan.firings) c.args.picks before in
     let opens : Opens r c.args.picks before c.in_ok-execution.execution =
     opens_first c.args.plan.tree.now (g.U.Units.leaf c.args.plan.units.now) c.args.plan.net c.args.plan.firings c.args.picks before (c.laws.ensures _ c.requires.sound) c.requires.few c.requires.named (c.a_stream_gives_its_items.ensures.starts _ _) c.args.plan.width c.requires.width (schedules.Recorded c.new.result) Nothing c.in_ok-execution.execution c.in_ok-execution.ensures in
@@ -64,8 +64,8 @@ returns-in_err-into_checkpoint-clause-ends g c =
 
 pub returns-in_err-into_checkpoint-clause-output : goal.returns-in_err-into_checkpoint-clause-output
 returns-in_err-into_checkpoint-clause-output g c =
-    let before : Outside = outside (g.S.Source.rest c.args.input.now) (g.S.Source.faults c.args.input.now) (g.K.Sink.taken c.args.out.now) (g.K.Sink.faults c.args.out.now) in
-    let now : Outside = outside (g.S.Source.rest c.replay.new.input) (g.S.Source.faults c.replay.new.input) (g.K.Sink.taken c.replay.new.out) (g.K.Sink.faults c.replay.new.out) in
+    let before : Streams = streams (g.S.Source.observed c.args.input.now) (g.K.Sink.observed c.args.out.now) in
+    let now : Streams = streams (g.S.Source.observed c.replay.new.input) (g.K.Sink.observed c.replay.new.out) in
     let r : Replay = replay_of (network c.args.plan.tree.now (g.U.Units.leaf c.args.plan.units.now) c.args.plan.net c.args.plan.firings) c.args.picks before in
     let opens : Opens r c.args.picks before c.in_ok-execution.execution =
     opens_first c.args.plan.tree.now (g.U.Units.leaf c.args.plan.units.now) c.args.plan.net c.args.plan.firings c.args.picks before (c.laws.ensures _ c.requires.sound) c.requires.few c.requires.named (c.a_stream_gives_its_items.ensures.starts _ _) c.args.plan.width c.requires.width (schedules.Recorded c.new.result) Nothing c.in_ok-execution.execution c.in_ok-execution.ensures in
@@ -75,8 +75,8 @@ returns-in_err-into_checkpoint-clause-output g c =
 
 pub returns : goal.returns
 returns g c =
-    let before : Outside = outside (g.S.Source.rest c.args.input.now) (g.S.Source.faults c.args.input.now) (g.K.Sink.taken c.args.out.now) (g.K.Sink.faults c.args.out.now) in
-    let now : Outside = outside (g.S.Source.rest c.replay.new.input) (g.S.Source.faults c.replay.new.input) (g.K.Sink.taken c.replay.new.out) (g.K.Sink.faults c.replay.new.out) in
+    let before : Streams = streams (g.S.Source.observed c.args.input.now) (g.K.Sink.observed c.args.out.now) in
+    let now : Streams = streams (g.S.Source.observed c.replay.new.input) (g.K.Sink.observed c.replay.new.out) in
     let r : Replay = replay_of (network c.args.plan.tree.now (g.U.Units.leaf c.args.plan.units.now) c.args.plan.net c.args.plan.firings) c.args.picks before in
     let opens : Opens r c.args.picks before c.in_ok-execution.execution =
     opens_first c.args.plan.tree.now (g.U.Units.leaf c.args.plan.units.now) c.args.plan.net c.args.plan.firings c.args.picks before (c.laws.ensures _ c.requires.sound) c.requires.few c.requires.named (c.a_stream_gives_its_items.ensures.starts _ _) c.args.plan.width c.requires.width (schedules.Recorded c.new.result) Nothing c.in_ok-execution.execution c.in_ok-execution.ensures in

@@ -1,17 +1,16 @@
 use Rattle.std.proofs.Common.{◌+◌, None, ap, sym, refl, take, arith}
 use Rattle.p3l_run.specs.Network.{network}
 use Rattle.p3l_trace.specs.declared.trace.TraceLine.{TraceLine}
-use Rattle.p3l_run.specs.Comparison.{outside}
 use Rattle.p3l_run.proofs.ComparisonSteps as comparison
 use Rattle.p3l_run.proofs.retrace.retrace.Goals as goal
 
--- what is read where there is no line
+-- the line that is read past the end
 abbrev no_line : TraceLine
 no_line = record { pick = 0; kind = None }
 
 pub loop-line-init : goal.loop-line-init
 loop-line-init g c = record {
-  walks = comparison.walks_first _ (outside (g.S.Source.rest c.args.input.now) (g.S.Source.faults c.args.input.now)) (c.laws.ensures _ c.requires.sound) refl c.requires.fits (c.a_stream_gives_its_items.ensures.starts _ _) c.args.plan.width c.requires.width c.in_ok-comparison.comparison c.in_ok-comparison.ensures;
+  walks = comparison.walks_first _ (g.S.Source.observed c.args.input.now) (c.laws.ensures _ c.requires.sound) refl c.requires.fits (c.a_stream_gives_its_items.ensures.starts _ _) c.args.plan.width c.requires.width c.in_ok-comparison.comparison c.in_ok-comparison.ensures;
   number = refl;
 }
 
@@ -22,7 +21,7 @@ pub pass-requires-clause-network : goal.pass-requires-clause-network
 pass-requires-clause-network g c = record {
   network = network c.args.plan.tree.now (g.U.Units.leaf c.args.plan.units.now) c.args.plan.net c.args.plan.firings;
   leaf_is = refl;
-  before = outside (g.S.Source.rest c.args.input.now) (g.S.Source.faults c.args.input.now);
+  first = g.S.Source.observed c.args.input.now;
   walked = take c.loop-line.line-index c.args.traced.now.lines;
   walks = c.loop-line.invariant.walks;
 }

@@ -1,11 +1,12 @@
-use Rattle.std.proofs.Common.{◌≡◌, ℕ, ℤ, ◌+◌, List, [], ◌∷◌, ◌++◌, Option, Some, None, Result, Ok, Err, refl, sym, ap, subst, ◌∙◌, append-nil}
+use Rattle.std.proofs.Common.{◌≡◌, ℤ, ◌+◌, List, [], ◌∷◌, ◌++◌, Option, Some, None, Result, Ok, Err, refl, sym, ap, subst, ◌∙◌, append-nil}
 use Rattle.p3l_base.specs.declared.NoMemory.{NoMemory}
+use Rattle.p3l_io.specs.Change.{change}
 use Rattle.p3l_skel.specs.Tree.{node_at}
 use Rattle.p3l_stream.specs.declared.items.Ending.{Ending}
-use Rattle.p3l_stream.specs.Given.{items_in}
-use Rattle.p3l_stream.specs.Seen.{closed_by, started}
+use Rattle.p3l_stream.specs.Next.{answered}
+use Rattle.p3l_stream.specs.Seen.{started}
 use Rattle.p3l_run.specs.Feed.{Gives, input_limit}
-use Rattle.p3l_run.proofs.FeedSteps.{ending_closed, gives_first, gives_more, item_closed}
+use Rattle.p3l_run.proofs.FeedSteps.{gives_first, gives_so}
 use Rattle.p3l_units.specs.Table.{Served}
 use Rattle.p3l_run.proofs.Steps.{counted_more, noted_more, noted_none}
 use Rattle.p3l_run.proofs.sampling.sample.Goals as goal
@@ -18,7 +19,7 @@ loop-before-init g c =
     record {
       gives = record {
         items = [];
-        gives = gives_first width (g.S.Source.rest c.args.input.now) (g.S.Source.faults c.args.input.now) c.in_ok-lines.lines (c.a_stream_gives_its_items.ensures.starts width input_limit) fresh;
+        gives = gives_first width (g.S.Source.observed c.args.input.now) c.in_ok-lines.lines (c.a_stream_gives_its_items.ensures.starts width input_limit) fresh;
         noted = noted_none tree (record { tree = tree; codes = c.args.codes.now }) c.args.profile.now.greatest;
         counted = refl;
       };
@@ -31,16 +32,16 @@ returns-in-Err-clause-sampled g c =
     let so_far = c.loop-before.invariant.gives in
     let s_open = so_far.gives.closed_is in
     let e = c.in_ok-answer.ensures in
-    let is = ending_closed c.in_ok-answer.answer c.in-Err.ending (sym c.into_item.ensures ∙ c.in-Err.is) in
-    let Given : List (List ℤ) → Option (Result Ending NoMemory) → Type 0 = λ items closed. Gives width (g.S.Source.rest c.args.input.now) (g.S.Source.rest c.next.new.source) (g.S.Source.faults c.args.input.now) (g.S.Source.faults c.next.new.source) c.next.new.self items closed in
-    let more : Given (so_far.items ++ items_in (Ok c.in_ok-answer.answer)) (closed_by (Ok c.in_ok-answer.answer)) =
-    gives_more width _ _ _ _ _ _ c.loop-before.lines c.next.new.self so_far.items (Ok c.in_ok-answer.answer)
-    (λ bytes given answers. c.a_stream_gives_its_items.ensures.answers width c.loop-before.lines c.next.new.self _ _ bytes so_far.items (Ok c.in_ok-answer.answer) given s_open (e.closed s_open) answers)
-    (e.answers s_open) (e.cause s_open) (e.closed s_open) e.items so_far.gives in
+    let is : Ok (answered c.in_ok-answer.answer) ≡ Ok (Err c.in-Err.ending) = ap (λ a. Ok a) (sym c.into_item.ensures ∙ c.in-Err.is) in
+    let Given : List (List ℤ) → Option (Result Ending NoMemory) → Type 0 = λ items closed. Gives width (change (g.S.Source.observed c.args.input.now) (g.S.Source.observed c.next.new.source)) c.next.new.self items closed in
+    let more : Given (so_far.items ++ []) (Some (Ok c.in-Err.ending)) =
+    gives_so width c.loop-before.lines c.next.new.self (change (g.S.Source.observed c.loop-before.input) (g.S.Source.observed c.next.new.source)) None refl (Ok (answered c.in_ok-answer.answer))
+    (λ bytes items given answers. c.a_stream_gives_its_items.ensures.answers width c.loop-before.lines c.next.new.self _ bytes items (Ok (answered c.in_ok-answer.answer)) given s_open (e.closed s_open) answers)
+    (e.answers s_open) (e.cause s_open) (e.closed s_open) e.items (Ok (Err c.in-Err.ending)) is _ so_far.items so_far.gives in
     record {
       s = c.next.new.self;
       items = so_far.items;
-      gives = subst (λ closed. Given so_far.items closed) is.1 (subst (λ items. Given items (closed_by (Ok c.in_ok-answer.answer))) (ap (λ last. so_far.items ++ last) is.0 ∙ append-nil so_far.items) more);
+      gives = subst (λ items. Given items (Some (Ok c.in-Err.ending))) (append-nil so_far.items) more;
       noted = so_far.noted;
     }
 
@@ -50,17 +51,17 @@ returns-in-Trapped-clause-sampled g c =
     let so_far = c.loop-before.invariant.gives in
     let s_open = so_far.gives.closed_is in
     let e = c.in_ok-answer.ensures in
-    let is = item_closed c.in_ok-answer.answer c.in-Ok.words (sym c.into_item.ensures ∙ c.in-Ok.is) in
-    let Given : List (List ℤ) → Option (Result Ending NoMemory) → Type 0 = λ items closed. Gives width (g.S.Source.rest c.args.input.now) (g.S.Source.rest c.next.new.source) (g.S.Source.faults c.args.input.now) (g.S.Source.faults c.next.new.source) c.next.new.self items closed in
-    let more : Given (so_far.items ++ items_in (Ok c.in_ok-answer.answer)) (closed_by (Ok c.in_ok-answer.answer)) =
-    gives_more width _ _ _ _ _ _ c.loop-before.lines c.next.new.self so_far.items (Ok c.in_ok-answer.answer)
-    (λ bytes given answers. c.a_stream_gives_its_items.ensures.answers width c.loop-before.lines c.next.new.self _ _ bytes so_far.items (Ok c.in_ok-answer.answer) given s_open (e.closed s_open) answers)
-    (e.answers s_open) (e.cause s_open) (e.closed s_open) e.items so_far.gives in
+    let is : Ok (answered c.in_ok-answer.answer) ≡ Ok (Ok c.in-Ok.words) = ap (λ a. Ok a) (sym c.into_item.ensures ∙ c.in-Ok.is) in
+    let Given : List (List ℤ) → Option (Result Ending NoMemory) → Type 0 = λ items closed. Gives width (change (g.S.Source.observed c.args.input.now) (g.S.Source.observed c.next.new.source)) c.next.new.self items closed in
+    let more : Given (so_far.items ++ c.in-Ok.words ∷ []) None =
+    gives_so width c.loop-before.lines c.next.new.self (change (g.S.Source.observed c.loop-before.input) (g.S.Source.observed c.next.new.source)) None refl (Ok (answered c.in_ok-answer.answer))
+    (λ bytes items given answers. c.a_stream_gives_its_items.ensures.answers width c.loop-before.lines c.next.new.self _ bytes items (Ok (answered c.in_ok-answer.answer)) given s_open (e.closed s_open) answers)
+    (e.answers s_open) (e.cause s_open) (e.closed s_open) e.items (Ok (Ok c.in-Ok.words)) is _ so_far.items so_far.gives in
     record {
       s = c.next.new.self;
       items = so_far.items;
       words = c.in-Ok.words;
-      gives = subst (λ closed. Given (so_far.items ++ c.in-Ok.words ∷ []) closed) is.1 (subst (λ last. Given (so_far.items ++ last) (closed_by (Ok c.in_ok-answer.answer))) is.0 more);
+      gives = more;
       values = so_far.noted.values;
       traps = sym c.in_ok-trap.ensures.item ∙ c.in-Trapped.is;
       number_is = ap (λ k. k + 1) so_far.counted;
@@ -74,16 +75,16 @@ loop-before-preserved g c =
     let so_far = c.loop-before.invariant.gives in
     let s_open = so_far.gives.closed_is in
     let e = c.in_ok-answer.ensures in
-    let is = item_closed c.in_ok-answer.answer c.in-Ok.words (sym c.into_item.ensures ∙ c.in-Ok.is) in
-    let Given : List (List ℤ) → Option (Result Ending NoMemory) → Type 0 = λ items closed. Gives width (g.S.Source.rest c.args.input.now) (g.S.Source.rest c.next.new.source) (g.S.Source.faults c.args.input.now) (g.S.Source.faults c.next.new.source) c.next.new.self items closed in
-    let more : Given (so_far.items ++ items_in (Ok c.in_ok-answer.answer)) (closed_by (Ok c.in_ok-answer.answer)) =
-    gives_more width _ _ _ _ _ _ c.loop-before.lines c.next.new.self so_far.items (Ok c.in_ok-answer.answer)
-    (λ bytes given answers. c.a_stream_gives_its_items.ensures.answers width c.loop-before.lines c.next.new.self _ _ bytes so_far.items (Ok c.in_ok-answer.answer) given s_open (e.closed s_open) answers)
-    (e.answers s_open) (e.cause s_open) (e.closed s_open) e.items so_far.gives in
+    let is : Ok (answered c.in_ok-answer.answer) ≡ Ok (Ok c.in-Ok.words) = ap (λ a. Ok a) (sym c.into_item.ensures ∙ c.in-Ok.is) in
+    let Given : List (List ℤ) → Option (Result Ending NoMemory) → Type 0 = λ items closed. Gives width (change (g.S.Source.observed c.args.input.now) (g.S.Source.observed c.next.new.source)) c.next.new.self items closed in
+    let more : Given (so_far.items ++ c.in-Ok.words ∷ []) None =
+    gives_so width c.loop-before.lines c.next.new.self (change (g.S.Source.observed c.loop-before.input) (g.S.Source.observed c.next.new.source)) None refl (Ok (answered c.in_ok-answer.answer))
+    (λ bytes items given answers. c.a_stream_gives_its_items.ensures.answers width c.loop-before.lines c.next.new.self _ bytes items (Ok (answered c.in_ok-answer.answer)) given s_open (e.closed s_open) answers)
+    (e.answers s_open) (e.cause s_open) (e.closed s_open) e.items (Ok (Ok c.in-Ok.words)) is _ so_far.items so_far.gives in
     record {
       gives = record {
         items = so_far.items ++ c.in-Ok.words ∷ [];
-        gives = subst (λ closed. Given (so_far.items ++ c.in-Ok.words ∷ []) closed) is.1 (subst (λ last. Given (so_far.items ++ last) (closed_by (Ok c.in_ok-answer.answer))) is.0 more);
+        gives = more;
         noted = noted_more tree served c.args.profile.now.greatest c.loop-before.profile.greatest c.item.new.self.greatest so_far.items c.in-Ok.words c.in-Value.field-0 so_far.noted c.in_ok-trap.ensures.noted (sym c.in-Value.is ∙ c.in_ok-trap.ensures.item);
         counted = counted_more so_far.items c.in-Ok.words c.loop-before.before so_far.counted;
       };

@@ -1,5 +1,4 @@
-use Rattle.std.proofs.Common.{◌≡◌}
-use Rattle.p3l_units.specs.Table.{Served}
+use Rattle.p3l_io.specs.Change.{change}
 use Rattle.p3l_profile.specs.Greatest.{IsProfileOf}
 use Rattle.p3l_run.specs.Sampling.{GivesOn}
 use Rattle.p3l_run.proofs.sampling.sample.Given as goal
@@ -7,6 +6,6 @@ use Rattle.p3l_run.proofs.sampling.sample.Given as goal
 -- `before` items were given and noted
 abbrev pub invariant-loop-before : goal.invariant-loop-before
 invariant-loop-before g l = record {
-  gives : GivesOn l.tree (record { tree = l.tree; codes = l.codes }) l.fn.profile.greatest l.profile.greatest (g.S.Source.rest l.fn.input) (g.S.Source.rest l.input) (g.S.Source.faults l.fn.input) (g.S.Source.faults l.input) l.lines l.before;
+  gives : GivesOn l.tree (record { tree = l.tree; codes = l.codes }) l.fn.profile.greatest l.profile.greatest (change (g.S.Source.observed l.fn.input) (g.S.Source.observed l.input)) l.lines l.before;
   of : IsProfileOf l.tree l.profile;
 }

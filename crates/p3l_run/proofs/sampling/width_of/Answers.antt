@@ -1,4 +1,4 @@
-use Rattle.std.proofs.Common.{◌≡◌, ◌<◌, arith}
+use Rattle.std.proofs.Common.{arith}
 use Rattle.p3l_run.proofs.Steps.{root_there}
 use Rattle.p3l_run.proofs.sampling.width_of.Goals as goal
 

@@ -1,5 +1,5 @@
 use Rattle.std.proofs.Common.{sym, ap, ◌∙◌, arith, is_some}
-use Rattle.p3l_firing.specs.Token.{peeled}
+use Rattle.p3l_firing.specs.Token.{untagged}
 use Rattle.p3l_template.proofs.Slots.{out_of_slots, slot_taken, slot_filled}
 use Rattle.p3l_template.proofs.numbered.fill.Goals as goal
 
@@ -21,6 +21,6 @@ returns-then-is_some-clause-no c = λ no xs rest are e.
 
 pub returns-clause-yes : goal.returns-clause-yes
 returns-clause-yes c = λ yes xs are.
-    slot_filled xs c.args.token.now c.peeled.result c.args.from c.newest_tag-number.result c.args.slots.now c.index-slots-place.result
+    slot_filled xs c.args.token.now c.untagged.result c.args.from c.newest_tag-number.result c.args.slots.now c.index-slots-place.result
     c.newest_tag-number.ensures (omega (arith, c.if-number-from.false)) (omega (arith, c.if-place-slots.false))
-    c.index-slots-place.is (ap is_some c.index-slots-place.is ∙ sym c.is_some.ensures ∙ c.if-is_some.false) (c.peeled.ensures ∙ ap peeled c.bare.ensures) are
+    c.index-slots-place.is (ap is_some c.index-slots-place.is ∙ sym c.is_some.ensures ∙ c.if-is_some.false) (c.untagged.ensures ∙ ap untagged c.bare.ensures) are

@@ -1,26 +1,26 @@
 -- Each turn gives the ports of the next worker.
 use Rattle.std.proofs.Common.{◌+◌, ◌++◌, [], ◌∷◌, ◌-◌, sym, ap, ◌∙◌, append_assoc, append-nil}
 use Rattle.p3l_template.specs.Built.{all_ports}
-use Rattle.p3l_template.specs.Shape.{fan_seats, ports_of}
-use Rattle.p3l_template.proofs.FanSeats.{seats_step, seats_end}
+use Rattle.p3l_template.specs.Shape.{fan_slots, ports_of}
+use Rattle.p3l_template.proofs.FanSlots.{slots_step, slots_end}
 use Rattle.p3l_template.proofs.workers.worker_ports.Goals as goal
 
 pub loop-worker-preserved : goal.loop-worker-preserved
 loop-worker-preserved c =
     let i = c.args.first in
     let o = c.args.first + c.args.workers in
-    ap (λ y. y ++ all_ports (fan_seats (i + (c.loop-worker.worker + 1)) (o + (c.loop-worker.worker + 1))
+    ap (λ y. y ++ all_ports (fan_slots (i + (c.loop-worker.worker + 1)) (o + (c.loop-worker.worker + 1))
     (c.args.workers - (c.loop-worker.worker + 1)))) (c.in_ok-push.ensures.ok
-    ∙ ap (λ x. c.loop-worker.ports ++ x ∷ []) (c.ports.ensures ∙ ap ports_of c.worker_seat.ensures))
+    ∙ ap (λ x. c.loop-worker.ports ++ x ∷ []) (c.ports.ensures ∙ ap ports_of c.worker_slot.ensures))
     ∙ append_assoc c.loop-worker.ports _ _
     ∙ ap (λ z. c.loop-worker.ports ++ all_ports z)
-    (sym (seats_step i o c.loop-worker.worker c.args.workers c.loop-worker-test.true))
+    (sym (slots_step i o c.loop-worker.worker c.args.workers c.loop-worker-test.true))
     ∙ c.loop-worker.invariant
 
 pub returns : goal.returns
 returns c =
     sym (append-nil c.loop-worker.ports)
     ∙ ap (λ z. c.loop-worker.ports ++ all_ports z)
-    (sym (seats_end (c.args.first + c.loop-worker.worker)
+    (sym (slots_end (c.args.first + c.loop-worker.worker)
     ((c.args.first + c.args.workers) + c.loop-worker.worker) c.loop-worker.worker c.args.workers c.loop-worker-test.false))
     ∙ c.loop-worker.invariant

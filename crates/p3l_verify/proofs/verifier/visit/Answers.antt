@@ -13,7 +13,7 @@ use Rattle.p3l_verify.proofs.verifier.visit.Goals as goal
 after_is : (d p q : ℕ) (i : Instr) → p ≡ pops i → q ≡ pushes i → d - p + q ≡ depth_after d i
 after_is d p q i ep eq = ap (λ n. d - n + q) ep ∙ ap (λ n. d - pops i + n) eq
 
--- what a settled depth comes with
+-- a depth is settled: the place must have it, and it is soundly known
 record Settled (code : Code) (known : List (Option ℕ)) (place d : ℕ) : Type 0 where
   must : MustBe code place d
   sound : IsSound code known place

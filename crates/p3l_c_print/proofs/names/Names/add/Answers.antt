@@ -3,11 +3,11 @@ use Rattle.std.specs.Prelude.{bytes_eq}
 use Rattle.std.specs.Map.{lookup}
 use Rattle.indexmap.proofs.CallerLemmas.{insert_entry-new}
 use Rattle.p3l_types.specs.Constants.{Constants}
-use Rattle.p3l_c_print.specs.declared.names.Place.{Place}
+use Rattle.p3l_c_print.specs.declared.names.VariablePlace.{VariablePlace}
 use Rattle.p3l_c_print.specs.Name.{Names}
 use Rattle.p3l_c_print.proofs.names.Names.add.Goals as goal
 
-names : List (List ℕ × Place) → Constants → ℕ → Names
+names : List (List ℕ × VariablePlace) → Constants → ℕ → Names
 names places constants home = record { places = places; constants = constants; home = home }
 
 pub returns : goal.returns

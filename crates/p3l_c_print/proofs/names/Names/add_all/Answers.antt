@@ -1,11 +1,11 @@
-use Rattle.std.proofs.Common.{◌≡◌, ℕ, ◌+◌, ◌≤◌, List, drop, get_or, length, sym, ap, ◌∙◌}
+use Rattle.std.proofs.Common.{◌≡◌, ℕ, ◌+◌, ◌≤◌, List, drop, sym, ap, ◌∙◌}
 use Rattle.p3l_types.specs.Constants.{Constants}
-use Rattle.p3l_c_print.specs.declared.names.Place.{Place}
+use Rattle.p3l_c_print.specs.declared.names.VariablePlace.{VariablePlace}
 use Rattle.p3l_c_print.specs.Name.{Names, all_entered, entered}
 use Rattle.p3l_c_print.proofs.Places.{entered_step, entered_end}
 use Rattle.p3l_c_print.proofs.names.Names.add_all.Goals as goal
 
-names : List (List ℕ × Place) → Constants → ℕ → Names
+names : List (List ℕ × VariablePlace) → Constants → ℕ → Names
 names places constants home = record { places = places; constants = constants; home = home }
 
 pub loop-number-preserved : goal.loop-number-preserved

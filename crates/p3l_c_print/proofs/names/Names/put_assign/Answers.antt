@@ -1,10 +1,9 @@
 use Rattle.std.proofs.Common.{◌≡◌, ◌++◌, ap, ◌∙◌, string_bytes}
 use Rattle.p3l_ast.specs.Tree.{phrase, phrases}
-use Rattle.p3l_c.specs.Translate.{next, next_all, sizes_at}
+use Rattle.p3l_c.specs.Translate.{next, sizes_at}
 use Rattle.p3l_c_print.specs.declared.value.Value.{Value}
 use Rattle.p3l_c_print.specs.declared.value.Spots.{Spots}
 use Rattle.p3l_c_print.specs.Name.{name_text, shapes_of}
-use Rattle.p3l_c_print.specs.Line.{set_line}
 use Rattle.p3l_c_print.specs.Value.{index_text, spots_of}
 use Rattle.p3l_c_print.proofs.Lines.{value_after}
 use Rattle.p3l_c_print.proofs.Puts.{assign_put}

@@ -1,4 +1,4 @@
-use Rattle.std.proofs.Common.{◌≡◌, ◌++◌, map, string_bytes, sym, ap, ◌∙◌}
+use Rattle.std.proofs.Common.{◌≡◌, ◌++◌, map, string_bytes, ap, ◌∙◌}
 use Rattle.p3l_c.specs.Condition.{take_entries, zero_entry}
 use Rattle.p3l_c_print.specs.Function.{entries_text}
 use Rattle.p3l_c_print.proofs.Puts.{entries_put}

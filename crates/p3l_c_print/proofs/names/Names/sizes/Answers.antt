@@ -1,4 +1,4 @@
-use Rattle.std.proofs.Common.{◌≡◌, List, [], ap, sym, ◌∙◌}
+use Rattle.std.proofs.Common.{◌≡◌, [], ap, sym, ◌∙◌}
 use Rattle.std.specs.Option.{option_copied}
 use Rattle.p3l_c_print.proofs.Places.{place_sizes, sizes_found}
 use Rattle.p3l_c_print.proofs.names.Names.sizes.Goals as goal

@@ -8,5 +8,5 @@ pub returns-clause-within : goal.returns-clause-within
 returns-clause-within c =
     let modules = c.args.self.now in
     let found : c.copied.result ≡ number_of modules c.args.name.now = grind (arith, common_steps) in
-    let same : length modules.wired ≡ length modules.infos = grind (arith, common_steps) in
-    subst (λ r. IfSome r (λ k. k < length modules.wired)) (sym found) (number-below c.args.name.now modules.infos (length modules.wired) same)
+    let same : length modules.callables ≡ length modules.infos = grind (arith, common_steps) in
+    subst (λ r. IfSome r (λ k. k < length modules.callables)) (sym found) (number-below c.args.name.now modules.infos (length modules.callables) same)

@@ -9,5 +9,5 @@ invariant_of-result c =
     let added = c.in_ok-add_module.ensures in
     let next : c.len-number.result ≡ length old.infos = c.len-number.ensures ∙ ap (λ (m : Modules). length m.infos) (sym c.self.view_is) in
     let few : length old.infos + 1 < 2 ^ 32 = subst (λ (m : Modules). length m.infos + 1 < 2 ^ 32) (sym c.self.view_is) c.requires.room in
-    are-numbered-after old.numbers.entries _ old.infos _ old.ports _ old.wired _ c.args.defined c.len-number.result c.self.invariant next few
-    c.in_ok-add_number.ensures added.infos added.ports added.wired
+    are-numbered-after old.numbers.entries _ old.infos _ old.ports _ old.callables _ c.args.defined c.len-number.result c.self.invariant next few
+    c.in_ok-add_number.ensures added.infos added.ports added.callables

@@ -3,13 +3,13 @@ use Rattle.p3l_base.specs.Memory.{IfGiven}
 use Rattle.p3l_template.specs.Shape.{Base}
 use Rattle.p3l_farm.specs.FarmKind.{farm_finds, found_by, seen_of}
 use Rattle.p3l_template.specs.Finding.{if_orderly}
-use Rattle.p3l_template.specs.Snapshot.{state_of}
+use Rattle.p3l_firing.specs.Shot.{state_of}
 use Rattle.p3l_farm.proofs.farm.FarmTemplateKind.pending.Goals as goal
 
 pub returns : goal.returns
 unfolding farm_finds
 returns c =
-    let s = state_of c.args.snapshot.now in
+    let s = state_of c.args.shot.now in
     let n = c.args.self.now.workers in
     let lines = c.as_slice.ensures ∙ c.in_ok-lines.ensures in
     let e : found_by (record { next = c.number-next.result; least = c.number-least.result; lines = c.as_slice.result.now; input = []; output = [] })

@@ -1,5 +1,5 @@
 use Rattle.std.proofs.Common.{◌≡◌, map, take}
-use Rattle.p3l_net.specs.Shot.{token_of}
+use Rattle.p3l_firing.specs.Shot.{token_of}
 use Rattle.p3l_net.proofs.channel.Channel.restore.Given as goal
 
 abbrev pub invariant-loop-token : goal.invariant-loop-token

@@ -1,4 +1,6 @@
 use Rattle.std.proofs.Common.{◌<◌, ◌&&◌, length, sym, ap, ap₂, ◌∙◌, subst}
+use Rattle.std.specs.Option.{is_some}
+use Rattle.p3l_net.specs.Machine.{Seen}
 use Rattle.p3l_net.specs.Steps.{room_at}
 use Rattle.p3l_net.proofs.Standing.{one_long}
 use Rattle.p3l_net.proofs.step.Source.{fits_source, out_there, is_ready}
@@ -12,5 +14,5 @@ has_room-room-requires c = subst (λ k. k < length c.args.self.now.queues) (sym 
 
 pub returns : goal.returns
 returns c =
-    ap₂ (λ a b. a && b) c.has_item-item.ensures (c.has_room-room.ensures ∙ ap (room_at c.args.self.now) c.output-output.ensures)
+    ap₂ (λ a b. a && b) (c.is_some-item.ensures ∙ ap (λ (x : Seen). is_some x.inbox) c.self.view_is) (c.has_room-room.ensures ∙ ap (room_at c.args.self.now) c.output-output.ensures)
     ∙ sym (is_ready c.requires.stands c.requires.kind)

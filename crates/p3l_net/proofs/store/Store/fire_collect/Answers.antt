@@ -3,7 +3,7 @@ use Rattle.std.specs.Option.{is_some}
 use Rattle.std.specs.List.{AllByRecursion}
 use Rattle.p3l_firing.specs.declared.token.Token.{Token}
 use Rattle.p3l_firing.specs.Lists.{first_or}
-use Rattle.p3l_firing.specs.Token.{credit, peeled}
+use Rattle.p3l_firing.specs.Token.{credit, untagged}
 use Rattle.p3l_firing.specs.State.{own_at, counted}
 use Rattle.p3l_firing.specs.kinds.Collect.{due_in}
 use Rattle.p3l_net.specs.Channel.{tokens_at}
@@ -40,16 +40,16 @@ put-requires c =
 
 pub count-requires-clause-there : goal.count-requires-clause-there
 count-requires-clause-there c =
-    subst (λ (x : Seen). c.args.p < length x.owns) (sym (c.put.ensures ∙ ap (λ (x : Seen). with_last x c.output-output.result c.peeled.result) c.take-token.ensures.after)) (own_there (here c.requires c.process-process.ensures))
+    subst (λ (x : Seen). c.args.p < length x.owns) (sym (c.put.ensures ∙ ap (λ (x : Seen). with_last x c.output-output.result c.untagged.result) c.take-token.ensures.after)) (own_there (here c.requires c.process-process.ensures))
 
 pub count-requires-clause-few : goal.count-requires-clause-few
 count-requires-clause-few c =
-    subst (λ (x : Seen). (own_at x.owns c.args.p).number + 1 < 2 ^ 64) (sym (c.put.ensures ∙ ap (λ (x : Seen). with_last x c.output-output.result c.peeled.result) c.take-token.ensures.after)) (own_few (here c.requires c.process-process.ensures) c.requires.count)
+    subst (λ (x : Seen). (own_at x.owns c.args.p).number + 1 < 2 ^ 64) (sym (c.put.ensures ∙ ap (λ (x : Seen). with_last x c.output-output.result c.untagged.result) c.take-token.ensures.after)) (own_few (here c.requires c.process-process.ensures) c.requires.count)
 
 pub tick-requires : goal.tick-requires
 tick-requires c =
     subst (λ (x : Seen). x.fired < 2 ^ 63)
-    (sym (c.count.ensures ∙ ap (λ (x : Seen). with_own x c.args.p (counted (own_at x.owns c.args.p))) (c.put.ensures ∙ ap (λ (x : Seen). with_last x c.output-output.result c.peeled.result) c.take-token.ensures.after)))
+    (sym (c.count.ensures ∙ ap (λ (x : Seen). with_own x c.args.p (counted (own_at x.owns c.args.p))) (c.put.ensures ∙ ap (λ (x : Seen). with_last x c.output-output.result c.untagged.result) c.take-token.ensures.after)))
     c.requires.count
 
 pub returns : goal.returns
@@ -58,8 +58,8 @@ returns c = λ leaf.
     let q = c.process-process.result.now in
     let output = c.output-output.ensures in
     let input = c.unwrap-input.result in
-    let sent : Token = peeled (first_or credit (tokens_at m.queues input)) in
-    let is = c.peeled.ensures ∙ ap (λ (x : Token). peeled x) c.take-token.ensures.front in
+    let sent : Token = untagged (first_or credit (tokens_at m.queues input)) in
+    let is = c.untagged.ensures ∙ ap (λ (x : Token). untagged x) c.take-token.ensures.front in
     let put = c.put.ensures ∙ ap₂ (λ (x : Seen) t. with_last x c.output-output.result t) c.take-token.ensures.after is ∙ ap (λ k. with_last (without_first m input) k sent) output in
     fired c.requires c.process-process.ensures input (sym (c.due_in-due.ensures ∙ ap₂ (due_in (state_of c.args.self.now [])) c.number-number.ensures c.as_slice.ensures) ∙ c.unwrap-input.ensures) leaf _
     (c.tick.ensures ∙ ap ticked (c.count.ensures ∙ ap (λ (x : Seen). with_own x c.args.p (counted (own_at x.owns c.args.p))) put))

@@ -28,6 +28,6 @@ pub returns : goal.returns
 returns c = λ leaf.
     let m : Seen = c.args.self.now in
     let body = c.take_body-body.ensures.body ∙ ap (λ k. (first_or credit (tokens_at m.queues k)).body) c.input-input.ensures in
-    fired c.requires.may c.process-process.ensures c.requires.calm leaf c.take_body-body.result body _
+    fired c.requires.may c.process-process.ensures c.requires.untrapped leaf c.take_body-body.result body _
     (c.tick.ensures ∙ ap ticked (c.emit.ensures ∙ ap (λ (x : Seen). one_emitted x c.take_body-body.result) (c.take_body-body.ensures.after ∙ ap (without_first m) c.input-input.ensures)))
     _ (c.one.ensures ∙ ap (λ k. k ∷ []) c.input-input.ensures)

@@ -28,7 +28,7 @@ returns-then-level-eq0-clause-placed c =
 
 pub returns-then-level-eq0-clause-ports : goal.returns-then-level-eq0-clause-ports
 returns-then-level-eq0-clause-ports c =
-    subst (λ sh. IfOk c.place.result (λ ports. ports ≡ all_ports (sh.seats (base_of c.args.at.now c.args.builder.now))))
+    subst (λ sh. IfOk c.place.result (λ ports. ports ≡ all_ports (sh.slots (base_of c.args.at.now c.args.builder.now))))
     (sym (shape_one c.args.self.now.node c.args.self.now.len (level_of c.args.self.now.segments)
     (sym c.level-level.ensures.value ∙ c.if-level-eq0.true))) c.place.ensures.ports
 
@@ -67,6 +67,6 @@ returns-clause-placed c =
 pub returns-clause-ports : goal.returns-clause-ports
 returns-clause-ports c =
     c.new.ensures
-    ∙ sym (ap (λ sh. all_ports (sh.seats (base_of c.args.at.now c.args.builder.now)))
+    ∙ sym (ap (λ sh. all_ports (sh.slots (base_of c.args.at.now c.args.builder.now)))
     (shape_tree c.args.self.now.node c.args.self.now.len (level_of c.args.self.now.segments)
     (λ z. c.if-level-eq0.false (c.level-level.ensures.value ∙ z))))

@@ -1,6 +1,7 @@
 use Rattle.std.proofs.Common.{sym}
 use Rattle.std.proofs.lemmas.Result.{err_from_is_err_and}
-use Rattle.p3l_run.specs.Execution.{AwaitsPick, outside}
+use Rattle.p3l_run.specs.Execution.{AwaitsPick}
+use Rattle.p3l_run.specs.Streams.{streams}
 use Rattle.p3l_run.specs.Timed.{under}
 use Rattle.p3l_run.proofs.ExecutionSteps.{must_end, number_fits}
 use Rattle.p3l_run.proofs.TimedSteps.{early_in_time, ended_in_time}
@@ -15,7 +16,7 @@ pub into_ran-requires : goal.into_ran-requires
 into_ran-requires g c =
     let way = c.requires.job in
     let over = c.in_ok-run_in_time.ensures.runs way.job way.prices way.leaf_is way.is in
-    let now = outside (g.S.Source.rest c.run_in_time.new.input) (g.S.Source.faults c.run_in_time.new.input) (g.K.Sink.taken c.run_in_time.new.out) (g.K.Sink.faults c.run_in_time.new.out) in
+    let now = streams (g.S.Source.observed c.run_in_time.new.input) (g.K.Sink.observed c.run_in_time.new.out) in
     let awaits : AwaitsPick (under way.job over.0.is.picks) now c.run_in_time.new.self = record { executes = over.0.is.executes; filled = over.0.filled } in
     record { fits = number_fits (under way.job over.0.is.picks) now c.run_in_time.new.self over.0.is.executes; ended = must_end (under way.job over.0.is.picks) now c.run_in_time.new.self awaits }
 

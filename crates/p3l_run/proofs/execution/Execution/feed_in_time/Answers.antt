@@ -1,5 +1,5 @@
 use Rattle.std.proofs.lemmas.Result.{err_from_is_err_and}
-use Rattle.p3l_run.specs.Execution.{outside}
+use Rattle.p3l_run.specs.Streams.{streams}
 use Rattle.p3l_run.specs.Timed.{under}
 use Rattle.p3l_run.proofs.ExecutionSteps.{unended, wide}
 use Rattle.p3l_run.proofs.TimedSteps.{fed_in_time, others_due, over_same, size_same, some_prices, unfed_in_time}
@@ -8,17 +8,17 @@ use Rattle.p3l_run.proofs.execution.Execution.feed_in_time.Goals as goal
 pub feed-requires-clause-wide : goal.feed-requires-clause-wide
 feed-requires-clause-wide g c =
     let way = c.requires in
-    wide (under way.job way.is.picks) (outside (g.S.Source.rest c.args.input.now) (g.S.Source.faults c.args.input.now) way.taken way.write_faults) _ way.is.executes
+    wide (under way.job way.is.picks) (streams (g.S.Source.observed c.args.input.now) way.output) _ way.is.executes
 
 pub feed-requires-clause-open : goal.feed-requires-clause-open
 feed-requires-clause-open g c =
     let way = c.requires in
-    unended (under way.job way.is.picks) (outside (g.S.Source.rest c.args.input.now) (g.S.Source.faults c.args.input.now) way.taken way.write_faults) _ way.is.executes
+    unended (under way.job way.is.picks) (streams (g.S.Source.observed c.args.input.now) way.output) _ way.is.executes
 
 pub returns-in_err-self-clause-feeds : goal.returns-in_err-self-clause-feeds
 returns-in_err-self-clause-feeds g c =
     let p = err_from_is_err_and c.from_residual.result c.from_residual.ensures.1 in
-    rw p.1 (λ job prices taken faults is. unfed_in_time job prices _ _ _ is _ _ _ c.in_err-self.ensures.does)
+    rw p.1 (λ job prices output is. unfed_in_time job prices _ _ _ is _ _ c.in_err-self.ensures.does)
 
 pub offered-requires-clause-size : goal.offered-requires-clause-size
 offered-requires-clause-size g c = let way = c.requires in size_same way.job way.prices _ _ _ way.is _ c.in_ok-self.ensures.does.more c.in_ok-self.ensures.does.offers
@@ -33,4 +33,4 @@ pub offered-requires-clause-over : goal.offered-requires-clause-over
 offered-requires-clause-over g c = let way = c.requires in over_same way.job way.prices _ _ _ way.is _ c.in_ok-self.ensures.does.more c.in_ok-self.ensures.does.offers
 
 pub returns-clause-feeds : goal.returns-clause-feeds
-returns-clause-feeds g c = λ job prices taken faults is. fed_in_time job prices _ _ _ is _ _ _ _ _ _ c.in_ok-self.ensures.does c.offered.ensures
+returns-clause-feeds g c = λ job prices output is. fed_in_time job prices _ _ _ is _ _ _ _ _ c.in_ok-self.ensures.does c.offered.ensures

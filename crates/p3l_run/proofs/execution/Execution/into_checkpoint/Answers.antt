@@ -6,23 +6,23 @@ use Rattle.p3l_run.specs.Run.{end_of}
 use Rattle.p3l_run.proofs.ReplaySteps.{ends_cut, ends_saved, ends_trapped, few_sent, is_countable, is_none, no_trap, not_none, trapped_is}
 use Rattle.p3l_run.proofs.execution.Execution.into_checkpoint.Goals as goal
 
--- where there is no other end, the stream isn't cut off
+-- a stream with no other end isn't cut off
 not_cut : (o close : Option Ending) → o ≡ cut_of close → ((x : Ending) → o ≡ Some x → ⊥) → cut_of close ≡ None
 not_cut None close is none = sym is
 not_cut (Some x) close is none = absurd (none x refl)
 
 pub returns-then-is_some : goal.returns-then-is_some
-returns-then-is_some c = λ r now named_is h. ends_trapped r now c.args.self h c.args.self.report.trap refl (not_none Trap c.args.self.report.trap c.is_some.result c.is_some.ensures c.if-is_some.true) c.args.named.now named_is _
-    (λ x may. c.in_ok-finish.ensures x may ∙ ap (λ k. end_of c.args.named.now c.args.self.report.trap k x) c.emitted.ensures)
+returns-then-is_some c = λ r now named_is h. ends_trapped r now c.args.self h c.args.self.emitted.trap refl (not_none Trap c.args.self.emitted.trap c.is_some.result c.is_some.ensures c.if-is_some.true) c.args.named.now named_is _
+    (λ x may. c.in_ok-finish.ensures x may ∙ ap (λ k. end_of c.args.named.now c.args.self.emitted.trap k x) c.emitted.ensures)
 
 pub returns-in-Some : goal.returns-in-Some
-returns-in-Some c = λ r now named_is h. ends_cut r now c.args.self h (is_none Trap c.args.self.report.trap c.is_some.result c.is_some.ensures c.if-is_some.false) c.in-Some.ending (sym c.cut_off.ensures ∙ c.in-Some.is)
+returns-in-Some c = λ r now named_is h. ends_cut r now c.args.self h (is_none Trap c.args.self.emitted.trap c.is_some.result c.is_some.ensures c.if-is_some.false) c.in-Some.ending (sym c.cut_off.ensures ∙ c.in-Some.is)
 
-pub save-requires-clause-calm : goal.save-requires-clause-calm
-save-requires-clause-calm c =
+pub save-requires-clause-untrapped : goal.save-requires-clause-untrapped
+save-requires-clause-untrapped c =
     let h = c.requires.2 in
     let d = h.replays in
-    trapped_is c.requires.0 h.used h.unused c.requires.1 c.args.self d ∙ no_trap d.outcomes (sym d.trap_is ∙ is_none Trap c.args.self.report.trap c.is_some.result c.is_some.ensures c.if-is_some.false)
+    trapped_is c.requires.0 h.used h.unused c.requires.1 c.args.self d ∙ no_trap d.outcomes (sym d.trap_is ∙ is_none Trap c.args.self.emitted.trap c.is_some.result c.is_some.ensures c.if-is_some.false)
 
 pub save-requires-clause-sent : goal.save-requires-clause-sent
 save-requires-clause-sent c = few_sent c.requires.0 c.requires.2.used c.requires.2.unused c.requires.1 c.args.self c.requires.2.replays
@@ -31,4 +31,4 @@ pub save-requires-clause-countable : goal.save-requires-clause-countable
 save-requires-clause-countable c = is_countable c.requires.0 c.requires.1 c.args.self c.requires.2
 
 pub returns : goal.returns
-returns c = λ r now named_is h. ends_saved r now c.args.self h (is_none Trap c.args.self.report.trap c.is_some.result c.is_some.ensures c.if-is_some.false) (not_cut c.cut_off.result c.args.self.close c.cut_off.ensures c.in_default.not-Some) c.in_ok-saved.saved c.in_ok-saved.ensures
+returns c = λ r now named_is h. ends_saved r now c.args.self h (is_none Trap c.args.self.emitted.trap c.is_some.result c.is_some.ensures c.if-is_some.false) (not_cut c.cut_off.result c.args.self.close c.cut_off.ensures c.in_default.not-Some) c.in_ok-saved.saved c.in_ok-saved.ensures

@@ -1,5 +1,5 @@
 use Rattle.std.proofs.Common.{◌+◌, ap, subst, sym}
-use Rattle.p3l_net.specs.Shot.{IsCountable}
+use Rattle.p3l_firing.specs.Shot.{IsCountable}
 use Rattle.p3l_run.proofs.ReplaySteps.{shaped_by}
 use Rattle.p3l_run.proofs.execution.Execution.save.Goals as goal
 

@@ -3,8 +3,8 @@ use Rattle.std.proofs.Common.{◌≡◌, ℕ, ◌+◌, ◌-◌, ◌<◌, ◌≤�
 use Rattle.std.proofs.lemmas.List.{length-map}
 use Rattle.p3l_template.specs.declared.template.Ports.{Ports}
 use Rattle.p3l_template.specs.Built.{all_ports}
-use Rattle.p3l_template.specs.Pipe.{pipe_shape, stage_seats}
-use Rattle.p3l_template.specs.Shape.{Base, HasRoomFor, Shape, added, base_of, ports_of}
+use Rattle.p3l_template.specs.Pipe.{pipe_shape, stage_slots}
+use Rattle.p3l_template.specs.Shape.{Base, HasRoomFor, Blueprint, added, base_of, ports_of}
 use Rattle.p3l_scan.specs.laws.NestedPlacing.{continued, ended, inner_room}
 use Rattle.p3l_template.specs.laws.PipeLaw.{pipe_lawful}
 use Rattle.p3l_template.specs.laws.PipeTyping.{stages_length}
@@ -15,20 +15,20 @@ use Rattle.p3l_scan.specs.laws.ScanLaw.{stages_inner}
 use Rattle.p3l_scan.proofs.stages.StagesTemplateTemplate.place.Goals as goal
 
 -- the ports of the pipe
-the_ports : (d : ℕ) (base : Base) (items : List Ports) → items ≡ all_ports ((pipe_shape (d + 1 - 1)).seats base) →
-    items ≡ all_ports ((pipe_shape d).seats base)
+the_ports : (d : ℕ) (base : Base) (items : List Ports) → items ≡ all_ports ((pipe_shape (d + 1 - 1)).slots base) →
+    items ≡ all_ports ((pipe_shape d).slots base)
 the_ports d base items e =
-    let same : d + 1 - 1 ≡ d = omega arith in subst (λ k. items ≡ all_ports ((pipe_shape k).seats base)) same e
+    let same : d + 1 - 1 ≡ d = omega arith in subst (λ k. items ≡ all_ports ((pipe_shape k).slots base)) same e
 
 -- a stage that there are ports for is there
-there : (d i : ℕ) (base : Base) (items : List Ports) → items ≡ all_ports (stage_seats 0 base.input base.chan base.output d) →
+there : (d i : ℕ) (base : Base) (items : List Ports) → items ≡ all_ports (stage_slots 0 base.input base.chan base.output d) →
     i < length items → i ≤ d
 there d i base items e l =
     omega (
       arith,
       l,
       ap length e,
-      length-map (stage_seats 0 base.input base.chan base.output d) ports_of,
+      length-map (stage_slots 0 base.input base.chan base.output d) ports_of,
       stages_length 0 base.input base.chan base.output d,
     )
 
@@ -51,7 +51,7 @@ place-requires-in-loop-stage-clause-room c =
     let t = c.stage_template-template.ensures in
     let none : Ports = record { input = 0; output = 0 } in
     let here : Base = base_of (get_or c.as_slice-inner-items.result.now i none) c.loop-stage.builder in
-    subst (λ (x : Shape). HasRoomFor c.loop-stage.builder (length (x.procs here)) (x.chans here))
+    subst (λ (x : Blueprint). HasRoomFor c.loop-stage.builder (length (x.procs here)) (x.chans here))
     (stage_is d i c.stage_template-template.result t.stage t.step t.blocks)
     (inner_room (pipe_shape d) (λ v. v) (λ s. stage_shape (stage_node s) (step_node s) (blocks d s)) (pipe_lawful d)
     (stages_inner d) c.args.cap c.args.at.now c.args.builder.now c.as_slice-inner-items.result.now
@@ -71,7 +71,7 @@ loop-stage-preserved c =
     (the_ports c.args.self.now.levels (base_of c.args.at.now c.args.builder.now) c.as_slice-inner-items.result.now
     (c.as_slice-inner-items.ensures ∙ c.in_ok-ports.ensures.ports)) c.loop-stage.builder i c.loop-stage.invariant
     c.loop-stage-test.true none c.place-in-loop-stage.new.builder
-    (subst (λ (x : Shape). c.place-in-loop-stage.new.builder
+    (subst (λ (x : Blueprint). c.place-in-loop-stage.new.builder
     ≡ added c.loop-stage.builder (x.procs here) (x.laid c.args.cap here))
     (sym (stage_is d i c.stage_template-template.result t.stage t.step t.blocks)) c.in_ok-_closed.ensures.placed)
 

@@ -13,7 +13,7 @@ returns-in-Some-clause-answers g c =
 
 pub returns-in-None-clause-answers : goal.returns-in-None-clause-answers
 returns-in-None-clause-answers g c =
-    answers_after _ _ _ _ _ _ (are_passed _ _ _ c.in_ok-line.ensures.ok c.in-None.is).0 c.read_on.ensures.answers
+    answers_after _ _ _ _ _ (are_passed _ _ _ c.in_ok-line.ensures.ok c.in-None.is).0 c.read_on.ensures.answers
 
 pub returns-in-None-clause-ready : goal.returns-in-None-clause-ready
 returns-in-None-clause-ready g c has =

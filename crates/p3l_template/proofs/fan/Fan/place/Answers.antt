@@ -1,4 +1,4 @@
--- What was added, call by call.
+-- The elements added so far, call by call.
 use Rattle.std.proofs.Common.{◌≡◌, ◌+◌, ℕ, length, [], ◌∷◌, ◌++◌, replicate, ap, ap₂, ◌∙◌, append_assoc, length-append}
 use Rattle.std.proofs.lemmas.List.{replicate-append-replicate, length-replicate}
 use Rattle.p3l_template.specs.Shape.{base_of, empty_chan, numbers_from}

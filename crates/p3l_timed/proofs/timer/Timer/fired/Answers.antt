@@ -26,7 +26,7 @@ invariant_of-self c =
       | inl trap ↦
           subst (λ ds. IsKept inside.prices.items (slice_set inside.busy.items p (slice_index inside.busy.items p + price_at inside.prices.items p)) ds c.unwrap_or-self-inside.result c.fired-self-inside.result) (sym (c.look_after-self-inside.ensures.rest trap))
           (kept_over inside.prices.items inside.busy.items inside.moments inside.moment inside.fired c.unwrap_or-self-inside.result c.fired-self-inside.result p kept there now up)
-      | inr calm ↦
+      | inr untrapped ↦
           kept_fired m inside.prices.items inside.busy.items inside.moments c.look_after-self-inside.new.moments inside.moment inside.fired c.unwrap_or-self-inside.result c.fired-self-inside.result p kept size there now up c.look_after-self-inside.ensures.size
-          (subst (λ ps. (r : ℕ) → due_at c.look_after-self-inside.new.moments r ≡ renewed (can_step m) (price_at ps) c.unwrap_or-self-inside.result (without p (due_at inside.moments)) r) c.as_slice.ensures.value (c.look_after-self-inside.ensures.due calm))
+          (subst (λ ps. (r : ℕ) → due_at c.look_after-self-inside.new.moments r ≡ renewed (can_step m) (price_at ps) c.unwrap_or-self-inside.result (without p (due_at inside.moments)) r) c.as_slice.ensures.value (c.look_after-self-inside.ensures.due untrapped))
     ])

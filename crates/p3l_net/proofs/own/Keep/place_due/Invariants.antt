@@ -1,5 +1,0 @@
-use Rattle.p3l_net.proofs.Held.{Passed}
-use Rattle.p3l_net.proofs.own.Keep.place_due.Given as goal
-
-abbrev pub invariant-loop-k : goal.invariant-loop-k
-invariant-loop-k l = Passed l.self.number l.self.held l.k

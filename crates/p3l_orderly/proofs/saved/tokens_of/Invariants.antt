@@ -1,6 +1,0 @@
-use Rattle.std.proofs.Common.{◌≡◌, map, take}
-use Rattle.p3l_net.specs.Shot.{token_of}
-use Rattle.p3l_orderly.proofs.saved.tokens_of.Given as goal
-
-abbrev pub invariant-loop-token : goal.invariant-loop-token
-invariant-loop-token l = l.tokens ≡ map token_of (take l.token-index l.saved)
