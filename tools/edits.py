@@ -10,6 +10,7 @@ second check of it, so those of texts, rules and words are tried here, after a c
 crates. The last line is `N refused, M not`.
 """
 
+import argparse
 import pathlib
 import shutil
 import subprocess
@@ -29,16 +30,24 @@ def crates_with_edits(names):
 
 
 def copy_of(room):
-    """A copy of the checkout with what is built in it, in which the edits stand where `rt must-fail` looks for them."""
+    """A copy of the checkout with what is built in it, in which the edits stand where `rt must-fail`
+    looks for them, in place of those that the gate tries."""
     copy = pathlib.Path(room) / "p3l"
     shutil.copytree(ROOT, copy, ignore=shutil.ignore_patterns(".git", "incremental"), symlinks=True)
     subprocess.run(["git", "init", "-q"], cwd=copy, check=True)
     for folder in copy.glob("crates/*/edits"):
-        folder.rename(folder.parent / "must-fail")
+        tried = folder.parent / "must-fail"
+        shutil.rmtree(tried, ignore_errors=True)
+        folder.rename(tried)
     return copy
 
 
-def main(names):
+def main():
+    parser = argparse.ArgumentParser(
+        description=__doc__, formatter_class=argparse.RawDescriptionHelpFormatter
+    )
+    parser.add_argument("names", nargs="*", metavar="NAME", help="a crate; by default all are tried")
+    names = parser.parse_args().names
     refused = left = 0
     with tempfile.TemporaryDirectory(prefix="p3l-edits-") as room:
         copy = copy_of(room)
@@ -55,4 +64,4 @@ def main(names):
 
 
 if __name__ == "__main__":
-    sys.exit(main(sys.argv[1:]))
+    sys.exit(main())

@@ -1,5 +1,5 @@
 -- The tables of the ends of channels.
-use Rattle.std.proofs.Common.{◌≡◌, ℕ, zero, suc, ◌+◌, ◌<◌, ◌≤◌, ◌==◌, List, [], ◌∷◌, ◌++◌, length, Option, Some, None, IsSomeAnd, slice_get, slice_index, slice_set, get_or, replicate, refl, sym, ap, ◌∙◌, subst, arith, inl, inr, ◌⊎◌, length-set, get_or-set_same, get_or-set_other, cond}
+use Rattle.std.proofs.Common.{◌≡◌, ℕ, zero, suc, ◌+◌, ◌<◌, ◌≤◌, ◌==◌, List, [], ◌∷◌, ◌++◌, length, Some, slice_get, slice_set, get_or, replicate, map, refl, sym, ap, ◌∙◌, subst, arith, inl, inr, ◌⊎◌, length-set, get_or-set_same, get_or-set_other, cond}
 use Rattle.std.specs.List.{AllByRecursion, flat_map}
 use Rattle.std.proofs.lemmas.Bool.{cases_eq, cases_lt}
 use Rattle.std.proofs.lemmas.List.{length-replicate, set_past}
@@ -8,10 +8,12 @@ use Rattle.p3l_skel.specs.declared.tree.Tree.{Tree}
 use Rattle.p3l_firing.specs.declared.process.Proc.{Proc}
 use Rattle.p3l_firing.specs.declared.net.Net.{Net}
 use Rattle.p3l_firing.specs.Typed.{IsTyped}
-use Rattle.p3l_firing.specs.Process.{Has, times}
+use Rattle.p3l_firing.specs.Process.{Has, kind_at, times}
 use Rattle.std.specs.Option.{option_map}
 use Rattle.p3l_firing.specs.declared.process.ProcKind.TheVariants.{Source}
-use Rattle.p3l_net.specs.Steps.{HasEnds, Ends, Reads, Writes, marked}
+use Rattle.p3l_net.specs.declared.descriptor.Descriptor.{Descriptor}
+use Rattle.p3l_net.specs.Descriptor.{IsDescribed, descriptor_of}
+use Rattle.p3l_net.specs.Steps.{HasEnds, Ends, marked}
 use Rattle.p3l_firing.proofs.Fitting.{all_of_one}
 use Rattle.p3l_firing.proofs.Places.{has_counted}
 
@@ -141,14 +143,15 @@ one_entered f procs count p table was there inside once q stands new e =
     all_has P (c ∷ cs) all d (inl k) = subst P k all.0
     all_has P (c ∷ cs) all d (inr k) = all_has P cs all.1 d k
 
-pub all_entered : (net : Net) (sides : Ends) → Entered (λ (q : Proc). q.outs) net.procs (length net.chans) (length net.procs) sides.writers → Entered (λ (q : Proc). q.ins) net.procs (length net.chans) (length net.procs) sides.readers → HasEnds net sides
-all_entered net sides writers readers = record {
+pub all_entered : (net : Net) (sides : Ends) → sides.descriptors ≡ map descriptor_of net.procs → Entered (λ (q : Proc). q.outs) net.procs (length net.chans) (length net.procs) sides.writers → Entered (λ (q : Proc). q.ins) net.procs (length net.chans) (length net.procs) sides.readers → HasEnds net sides
+all_entered net sides descriptors writers readers = record {
   as_many_writers = writers.long;
   as_many_readers = readers.long;
   written = λ r c q at h. writers.right r c q (inside net.procs r q at) at h;
   read = λ r c q at h. readers.right r c q (inside net.procs r q at) at h;
   writers_inside = λ c h. writers.bound c;
   readers_inside = λ c h. readers.bound c;
+  descriptors = descriptors;
 }
   where
     inside : (xs : List Proc) (i : ℕ) (x : Proc) → slice_get xs i ≡ Some x → i < length xs
@@ -183,17 +186,18 @@ module _ {tree : Tree} {net : Net} (typed : IsTyped tree net) where
     pub entered_readers : (table : List ℕ) → Entered (λ (x : Proc). x.ins) net.procs (length net.chans) p table → p < length net.procs → (new : List ℕ) → new ≡ marked table q.ins p → Entered (λ (x : Proc). x.ins) net.procs (length net.chans) (p + 1) new
     entered_readers table was there new e = one_entered (λ (x : Proc). x.ins) net.procs (length net.chans) p table was there typed.reads (λ c h. (typed.channels c h).read) q stands new e
 
--- the end of a channel that a process reads, or writes, is that process
-end_is : (channels : Proc → List ℕ) (procs : List Proc) (table : List ℕ) → ((r c : ℕ) (q : Proc) → slice_get procs r ≡ Some q → Has (channels q) c → slice_index table c ≡ r) → (p c : ℕ) → IsSomeAnd (slice_get procs p) (λ (q : Proc). Has (channels q) c) → slice_index table c ≡ p
-end_is channels procs table entered p c = by (slice_get procs p) refl
-  where
-    by : (o : Option Proc) → slice_get procs p ≡ o → IsSomeAnd o (λ (q : Proc). Has (channels q) c) → slice_index table c ≡ p
-    by (Some q) at has = entered p c q at has
-    by None at has = absurd has
+-- the process that a descriptor was read for
+described_in : (procs : List Proc) (p : ℕ) (d : Descriptor) → slice_get (map descriptor_of procs) p ≡ Some d → (q : Proc) × ((slice_get procs p ≡ Some q) × (d ≡ descriptor_of q))
+described_in [] p d read = cc
+described_in (q ∷ procs) zero d read = (q, (refl, cc))
+described_in (q ∷ procs) (suc p) d read = described_in procs p d read
 
-module _ (net : Net) (ends : Ends) (sides : HasEnds net ends) where
-  pub reader_is : (p c : ℕ) → Reads net p c → slice_index ends.readers c ≡ p
-  reader_is = end_is (λ (q : Proc). q.ins) net.procs ends.readers sides.read
+-- the process of a descriptor that was read
+pub is_described : {net : Net} {ends : Ends} {p : ℕ} {descriptor : Descriptor} → HasEnds net ends → slice_get ends.descriptors p ≡ Some descriptor → IsDescribed net p descriptor
+is_described {net = net} {p = p} {descriptor = descriptor} sides read =
+    let found = described_in net.procs p descriptor (sym (ap (λ (ds : List Descriptor). slice_get ds p) sides.descriptors) ∙ read) in
+    record { process = found.0; stands = found.1.0; described = found.1.1 }
 
-  pub writer_is : (p c : ℕ) → Writes net p c → slice_index ends.writers c ≡ p
-  writer_is = end_is (λ (q : Proc). q.outs) net.procs ends.writers sides.written
+-- a descriptor has the kind of its process
+pub kind_described : {net : Net} {p : ℕ} {descriptor : Descriptor} → IsDescribed net p descriptor → kind_at net p ≡ Some descriptor.kind
+kind_described is = ap (option_map (λ (q : Proc). q.kind)) is.stands ∙ ap (λ (d : Descriptor). Some d.kind) (sym is.described)

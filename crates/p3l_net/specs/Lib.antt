@@ -1,4 +1,5 @@
 pub mod Channel
+pub mod Descriptor
 pub mod Rings
 pub mod Forms
 pub mod Turns

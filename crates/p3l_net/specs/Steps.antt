@@ -1,5 +1,5 @@
 -- The steps that a firing is made of, on what contracts see of a machine; and what a firing leaves alone.
-use Rattle.std.specs.Prelude.{◌≡◌, ◌≢◌, ℕ, ℤ, ⊤, ◌+◌, ◌^◌, ◌<◌, ◌⊎◌, List, [], ◌∷◌, ◌++◌, Bool, true, cond, Option, None, Some, length, slice_get, slice_set, slice_index, nat_lt, fold, IsSomeAnd}
+use Rattle.std.specs.Prelude.{◌≡◌, ◌≢◌, ℕ, ℤ, ⊤, ◌+◌, ◌^◌, ◌<◌, ◌⊎◌, List, [], ◌∷◌, ◌++◌, Bool, true, cond, Option, None, Some, length, slice_get, slice_set, slice_index, nat_lt, fold, map}
 use Rattle.std.specs.List.{AllByRecursion}
 use Rattle.p3l_base.specs.declared.outcome.Outcome.{Outcome}
 use Rattle.p3l_base.specs.declared.outcome.Outcome.TheVariants.{Value, Trapped}
@@ -17,6 +17,8 @@ use Rattle.p3l_ready.specs.Flags.{flag_at}
 use Rattle.p3l_firing.specs.Nodes.{Leaf}
 use Rattle.p3l_firing.specs.Process.{IsAt, Has, kind_at}
 use Rattle.p3l_firing.specs.Typed.{IsTyped}
+use Rattle.p3l_net.specs.declared.descriptor.Descriptor.{Descriptor}
+use Rattle.p3l_net.specs.Descriptor.{descriptor_of}
 use Rattle.p3l_net.specs.Machine.{Seen, Fires, IsShaped, IsSound, can_step, state_of}
 
 -- one firing more is counted
@@ -105,12 +107,13 @@ IsWriter net c p = (r : ℕ) (q : Proc) → slice_get net.procs r ≡ Some q →
 abbrev pub IsReader : Net → ℕ → ℕ → Type 0
 IsReader net c p = (r : ℕ) (q : Proc) → slice_get net.procs r ≡ Some q → Has q.ins c → r ≡ p
 
--- the process that writes each channel, and the one that reads it
+-- the process that writes each channel, the one that reads it, and the descriptor of each process
 pub record Ends : Type 0 where
   pub writers : List ℕ
   pub readers : List ℕ
+  pub descriptors : List Descriptor
 
--- these are the ends of the channels of a net
+-- these are the ends of the channels of a net, and the descriptors of its processes
 pub record HasEnds (net : Net) (ends : Ends) : Type 0 where
   pub as_many_writers : length ends.writers ≡ length net.chans
   pub as_many_readers : length ends.readers ≡ length net.chans
@@ -118,13 +121,7 @@ pub record HasEnds (net : Net) (ends : Ends) : Type 0 where
   pub read : (r c : ℕ) (q : Proc) → slice_get net.procs r ≡ Some q → Has q.ins c → slice_index ends.readers c ≡ r
   pub writers_inside : (c : ℕ) → c < length net.chans → slice_index ends.writers c < length net.procs
   pub readers_inside : (c : ℕ) → c < length net.chans → slice_index ends.readers c < length net.procs
-
--- process p of a net reads channel c, or writes it
-abbrev pub Reads : Net → ℕ → ℕ → Type 0
-Reads net p c = IsSomeAnd (slice_get net.procs p) (λ (q : Proc). Has q.ins c)
-
-abbrev pub Writes : Net → ℕ → ℕ → Type 0
-Writes net p c = IsSomeAnd (slice_get net.procs p) (λ (q : Proc). Has q.outs c)
+  pub descriptors : ends.descriptors ≡ map descriptor_of net.procs
 
 -- the channels and the local state of process r allow it to fire
 abbrev pub ready_at : Seen → ℕ → Bool

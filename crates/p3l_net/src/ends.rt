@@ -1,22 +1,25 @@
-// The two ends of each channel.
+// The two ends of each channel, and the processes in short.
 
-ghost use Rattle.std.specs.Prelude.{◌≡◌, ◌<◌, length, slice_index};
+ghost use Rattle.std.specs.Prelude.{◌≡◌, ◌<◌, length, slice_get, slice_index, Some};
 ghost use Rattle.p3l_base.specs.Memory.{IfGiven};
 ghost use Rattle.std.specs.List.{AllByRecursion};
 ghost use Rattle.p3l_skel.specs.declared.tree.Tree.{Tree};
 ghost use Rattle.p3l_net.specs.Steps.{HasEnds, marked};
 ghost use Rattle.p3l_firing.specs.Typed.{IsTyped};
 
+use crate::descriptor::{Descriptor, describe_all};
 use p3l_base::NoMemory;
 use p3l_firing::Net;
 use std::alloc::Global;
 use std::marker::Model;
 
-/// The process that writes each channel, and the one that reads it.
+/// The process that writes each channel, and the one that reads it; and the descriptor of each
+/// process.
 #[derive(Debug, Drop)]
 pub struct Sides {
     writers: Vec<u32>,
     readers: Vec<u32>,
+    descriptors: Vec<Descriptor>,
 }
 
 impl Model for Sides {
@@ -24,7 +27,7 @@ impl Model for Sides {
 
     ghost Value = { Ends };
 
-    ghost view = { λ it. record { writers = it.writers.items; readers = it.readers.items } };
+    ghost view = { λ it. record { writers = it.writers.items; readers = it.readers.items; descriptors = it.descriptors.items } };
 }
 
 // Enters process `p` for these channels.
@@ -38,7 +41,7 @@ fn mark(table: &mut Vec<u32>, channels: &[u32], p: u32)
 }
 
 impl Sides {
-    /// The ends of the channels of a net.
+    /// The ends of the channels of a net, and the descriptors of its processes.
     pub fn of(alloc: Global, net: &Net) -> Result<Sides, NoMemory>
         requires { (tree : Tree) × IsTyped tree net.now }
         ensures { IfGiven result (λ sides. HasEnds net.now sides) }
@@ -52,7 +55,12 @@ impl Sides {
             mark(&mut writers, process.outs.as_slice(), p as u32);
             mark(&mut readers, process.ins.as_slice(), p as u32);
         }
-        Ok(Sides { writers, readers })
+        let descriptors = describe_all(alloc, procs)?;
+        Ok(Sides {
+            writers,
+            readers,
+            descriptors,
+        })
     }
 
     /// The process that writes a channel.
@@ -69,5 +77,13 @@ impl Sides {
         ensures { result ≡ slice_index self.now.readers c }
     {
         self.readers[c as usize]
+    }
+
+    /// The descriptor of a process.
+    pub fn descriptor(&self, p: u32) -> &Descriptor
+        requires { p < length self.now.descriptors }
+        ensures { slice_get self.now.descriptors p ≡ Some result.now }
+    {
+        &self.descriptors[p as usize]
     }
 }

@@ -17,13 +17,14 @@ mod tail;
 ghost use Rattle.std.specs.Prelude.{◌≡◌, ◌≢◌, ◌<◌, ◌^◌, length, Some, None, true, OnErr};
 ghost use Rattle.p3l_base.specs.Memory.{IfGivenOr};
 ghost use Rattle.p3l_firing.specs.Process.{kind_at};
-ghost use Rattle.p3l_net.specs.Machine.{IsSound, Stands, may_want_memory};
-ghost use Rattle.p3l_net.specs.Steps.{Done, ready_at};
+ghost use Rattle.p3l_net.specs.Machine.{IsSound, may_want_memory};
+ghost use Rattle.p3l_net.specs.Steps.{Done, HasEnds, ready_at};
 
+use crate::ends::Sides;
 use crate::store::Store;
 use crate::touched::Touched;
 use p3l_base::NoMemory;
-use p3l_firing::{Proc, ProcKind};
+use p3l_firing::ProcKind;
 use p3l_skel::Units;
 use std::alloc::Global;
 
@@ -31,25 +32,28 @@ impl<'t> Store<'t> {
     /// Returns true exactly if process `p` is ready, as long as no trap was emitted. Most
     /// processes are runs, so these are looked at without a call.
     #[inline(always)]
-    pub(crate) fn is_ready(&self, p: u32) -> bool
+    pub(crate) fn is_ready(&self, sides: &Sides, p: u32) -> bool
         requires sound { IsSound self.now }
+        requires sides { HasEnds self.now.net sides.now }
         requires there { p < length self.now.net.procs }
         ensures { result ≡ ready_at self.now p }
     {
-        let process = self.process(p);
-        if process.kind == ProcKind::Run {
-            return self.can_run(p, process);
+        let descriptor = sides.descriptor(p);
+        if descriptor.kind == ProcKind::Run {
+            return self.can_run(p, descriptor);
         }
-        self.is_other_ready(p, process)
+        self.is_other_ready(p)
     }
 
     // Returns true exactly if a process that isn't a run is ready.
     #[inline(never)]
-    fn is_other_ready(&self, p: u32, process: &Proc) -> bool
-        requires stands { Stands self.now p process.now }
-        requires other { process.now.kind ≢ ProcKind.Run }
+    fn is_other_ready(&self, p: u32) -> bool
+        requires sound { IsSound self.now }
+        requires there { p < length self.now.net.procs }
+        requires other { kind_at self.now.net p ≢ Some ProcKind.Run }
         ensures { result ≡ ready_at self.now p }
     {
+        let process = self.process(p);
         match process.kind {
             ProcKind::Source => self.can_source(p, process),
             ProcKind::Sink => self.can_sink(p, process),
@@ -66,8 +70,8 @@ impl<'t> Store<'t> {
         }
     }
 
-    /// Fires process `p`, which is neither a sink nor a run: the step of its kind's row. Handed
-    /// back are the channels touched.
+    /// Fires process `p`, which is neither a sink nor a run: the step of its kind's row. Returns
+    /// the channels touched.
     pub(crate) fn fire_other<U: Units>(
         &mut self,
         alloc: Global,

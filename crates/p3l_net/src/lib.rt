@@ -4,6 +4,7 @@
 
 mod channel;
 mod channels;
+pub mod descriptor;
 pub mod ends;
 mod kinds;
 pub mod laws;

@@ -56,7 +56,7 @@ impl<'t> Machine<'t> {
     {
         let sides = Sides::of(alloc, &net)?;
         let store = Store::start(alloc, tree, net)?;
-        let ready = all_ready(alloc, &store)?;
+        let ready = all_ready(alloc, &store, &sides)?;
         Ok(Machine {
             store,
             ready,
@@ -76,7 +76,7 @@ impl<'t> Machine<'t> {
     {
         let sides = Sides::of(alloc, &net)?;
         let store = Store::restore(alloc, tree, net, shot)?;
-        let ready = all_ready(alloc, &store)?;
+        let ready = all_ready(alloc, &store, &sides)?;
         Ok(Machine {
             store,
             ready,
@@ -209,7 +209,7 @@ impl<'t> Machine<'t> {
         requires { p < length self.now.net.procs }
         ensures { kind_at self.now.net p ≡ Some result }
     {
-        self.store.process(p).kind
+        self.sides.descriptor(p).kind
     }
 
     /// Fires process `p`: the step of its kind's row. The outcome handed out is there exactly where
@@ -303,10 +303,10 @@ impl<'t> Machine<'t> {
         ensures err { OnErr result (self.new ≡ self.old) }
         ensures memory { OnErr result (may_want_memory self.old p ≡ true) }
     {
-        match self.store.fire_run(alloc, units, p) {
-            Ok((input, output)) => {
-                let ready = &mut self.ready;
-                refresh_run(&self.store, &self.sides, ready, p, input, output);
+        let descriptor = self.sides.descriptor(p);
+        match self.store.fire_run(alloc, units, p, descriptor) {
+            Ok(()) => {
+                refresh_run(&self.store, &self.sides, &mut self.ready, p, descriptor);
                 Ok(())
             }
             Err(error) => Err(error),

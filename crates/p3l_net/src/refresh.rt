@@ -4,9 +4,11 @@ ghost use Rattle.std.specs.Prelude.{◌≡◌, ◌<◌, ◌+◌, ℕ, List, [], 
 ghost use Rattle.p3l_base.specs.Memory.{IfGiven};
 ghost use Rattle.p3l_firing.specs.State.{chan_at};
 ghost use Rattle.p3l_net.specs.Channel.{tokens_at};
+ghost use Rattle.p3l_net.specs.Descriptor.{IsRun};
 ghost use Rattle.p3l_net.specs.Machine.{IsSound};
 ghost use Rattle.p3l_net.specs.Steps.{AgreesAt, AgreesBut, CanRefresh, HasEnds, IsKept, looked, ready_at};
 
+use crate::descriptor::Descriptor;
 use crate::ends::Sides;
 use crate::store::Store;
 use p3l_base::NoMemory;
@@ -15,25 +17,27 @@ use std::alloc::Global;
 
 // Looks again whether process `r` is ready.
 #[inline(always)]
-fn look(store: &Store, ready: &mut ReadySet, r: u32)
+fn look(store: &Store, sides: &Sides, ready: &mut ReadySet, r: u32)
     requires sound { IsSound store.now }
+    requires sides { HasEnds store.now.net sides.now }
     requires there { r < length store.now.net.procs }
     requires size { length ready.old ≡ length store.now.net.procs }
     ensures { ready.new ≡ slice_set ready.old r (ready_at store.now r) }
 {
-    ready.put(r, store.is_ready(r));
+    ready.put(r, store.is_ready(sides, r));
 }
 
 // Looks again whether process `r` is ready, unless it is `p`, of which that is known.
 #[inline(always)]
-fn look_beside(store: &Store, ready: &mut ReadySet, p: u32, r: u32)
+fn look_beside(store: &Store, sides: &Sides, ready: &mut ReadySet, p: u32, r: u32)
     requires known { AgreesAt store.now ready.old p }
+    requires sides { HasEnds store.now.net sides.now }
     requires there { r < length store.now.net.procs }
     ensures looked { ready.new ≡ slice_set ready.old r (ready_at store.now r) }
     ensures known { AgreesAt store.now ready.new p }
 {
     if r != p {
-        look(store, ready, r);
+        look(store, sides, ready, r);
     }
 }
 
@@ -50,7 +54,7 @@ fn look_at_writer(store: &Store, sides: &Sides, ready: &mut ReadySet, p: u32, c:
     ensures known { AgreesAt store.now ready.new p }
 {
     if store.room(c) as usize <= store.load(c) + 1 {
-        look_beside(store, ready, p, sides.writer(c));
+        look_beside(store, sides, ready, p, sides.writer(c));
     }
 }
 
@@ -67,7 +71,7 @@ fn look_at_reader(store: &Store, sides: &Sides, ready: &mut ReadySet, p: u32, c:
     ensures known { AgreesAt store.now ready.new p }
 {
     if store.load(c) <= 1 {
-        look_beside(store, ready, p, sides.reader(c));
+        look_beside(store, sides, ready, p, sides.reader(c));
     }
 }
 
@@ -93,43 +97,42 @@ pub(crate) fn refresh(store: &Store, sides: &Sides, ready: &mut ReadySet, p: u32
     requires { CanRefresh store.now sides.now ready.old p touched.now }
     ensures { IsKept store.now ready.new sides.now }
 {
-    look(store, ready, p);
+    look(store, sides, ready, p);
     for channel in touched {
         look_at_ends(store, sides, ready, p, *channel);
     }
 }
 
-/// Looks again at the run `p`, at the process that writes the channel `input` that it reads, and
-/// at the one that reads the channel `output` that it writes. The other end of each of the two is
-/// `p` itself.
+/// Looks again at the run `p`, at the process that writes the channel that it reads, and at the one
+/// that reads the channel that it writes. The other end of each of the two is `p` itself.
 #[inline(always)]
 pub(crate) fn refresh_run(
     store: &Store,
     sides: &Sides,
     ready: &mut ReadySet,
     p: u32,
-    input: u32,
-    output: u32,
+    descriptor: &Descriptor,
 )
-    requires can { CanRefresh store.now sides.now ready.old p (input ∷ (output ∷ [])) }
-    requires reads { slice_index sides.now.readers input ≡ p }
-    requires writes { slice_index sides.now.writers output ≡ p }
+    requires can { CanRefresh store.now sides.now ready.old p
+        (descriptor.now.input ∷ (descriptor.now.output ∷ [])) }
+    requires run { IsRun store.now.net p descriptor.now }
     ensures { IsKept store.now ready.new sides.now }
 {
-    look(store, ready, p);
-    look_at_writer(store, sides, ready, p, input);
-    look_at_reader(store, sides, ready, p, output);
+    ready.put(p, store.can_run(p, descriptor));
+    look_at_writer(store, sides, ready, p, descriptor.input);
+    look_at_reader(store, sides, ready, p, descriptor.output);
 }
 
 /// The set of the processes that are ready.
-pub(crate) fn all_ready(alloc: Global, store: &Store) -> Result<ReadySet, NoMemory>
-    requires { IsSound store.now }
+pub(crate) fn all_ready(alloc: Global, store: &Store, sides: &Sides) -> Result<ReadySet, NoMemory>
+    requires sound { IsSound store.now }
+    requires sides { HasEnds store.now.net sides.now }
     ensures { IfGiven result (λ ready. AgreesBut store.now ready []) }
 {
     let size = store.net.procs.len() as u32;
     let mut ready = ReadySet::new(alloc, size)?;
     for r in 0..size {
-        look(store, &mut ready, r);
+        look(store, sides, &mut ready, r);
     }
     Ok(ready)
 }

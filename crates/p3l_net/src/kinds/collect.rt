@@ -51,8 +51,8 @@ impl<'t> Store<'t> {
         due.is_some() & room
     }
 
-    // The collect `p` takes the token that is expected, and hands it on without its number. Handed
-    // back are the channels touched.
+    // The collect `p` takes the token that is expected, and hands it on without its number. Returns
+    // the channels touched.
     pub(super) fn fire_collect(&mut self, p: u32) -> Touched
         requires { MayFire self.old p ProcKind.Collect }
         ensures { (leaf : Leaf) → Done leaf self.old self.new p result None }

@@ -62,7 +62,7 @@ impl<'t> Store<'t> {
     }
 
     // The emit `p` tags a token with its number, and sends it to the worker with the fewest tokens.
-    // Handed back are the channels touched.
+    // Returns the channels touched.
     pub(super) fn fire_emit(&mut self, p: u32) -> Touched
         requires { MayFire self.old p ProcKind.Emit }
         ensures { (leaf : Leaf) → Done leaf self.old self.new p result None }

@@ -86,7 +86,7 @@ impl<'t> Store<'t> {
     }
 
     // The fold-gather `p` folds the outcomes that it holds, if these are all; else it takes the
-    // next one. Handed back is the channel touched.
+    // next one. Returns the channel touched.
     pub(super) fn fire_fold_gather<U: Units>(
         &mut self,
         alloc: Global,
@@ -108,7 +108,7 @@ impl<'t> Store<'t> {
         }
     }
 
-    // The fold-gather `p` sends the fold of the outcomes that it holds, and lets go of them.
+    // The fold-gather `p` sends the fold of the outcomes that it holds, and drops them.
     fn send_fold<U: Units>(&mut self, alloc: Global, units: &U, p: u32) -> Result<Touched, NoMemory>
         requires may { MayFire self.old p ProcKind.FoldGather }
         requires full { (q : Proc) → slice_get self.old.net.procs p ≡ Some q

@@ -82,7 +82,7 @@ impl<'t> Store<'t> {
     }
 
     // The gather `p` joins the results that it holds, if these are all; else it takes the next one.
-    // Handed back is the channel touched.
+    // Returns the channel touched.
     pub(super) fn fire_gather(&mut self, alloc: Global, p: u32) -> Result<Touched, NoMemory>
         requires { MayFire self.old p ProcKind.Gather }
         ensures done { IfGiven result (λ touched. (leaf : Leaf)
@@ -98,7 +98,7 @@ impl<'t> Store<'t> {
         }
     }
 
-    // The gather `p` sends the whole that the results which it holds make, and lets go of them.
+    // The gather `p` sends the whole that the results which it holds make, and drops them.
     fn send_whole(&mut self, alloc: Global, p: u32) -> Result<Touched, NoMemory>
         requires may { MayFire self.old p ProcKind.Gather }
         requires full { (q : Proc) → slice_get self.old.net.procs p ≡ Some q

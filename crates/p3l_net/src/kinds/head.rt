@@ -31,7 +31,7 @@ impl<'t> Store<'t> {
         room & (comes_back | (comes_in & has_credit))
     }
 
-    // The head `p` sends a token round that came back, or lets one in. Handed back are the channels
+    // The head `p` sends a token round that came back, or lets one in. Returns the channels
     // touched.
     pub(super) fn fire_head(&mut self, p: u32) -> Touched
         requires { MayFire self.old p ProcKind.Head }

@@ -58,7 +58,7 @@ impl<'t> Store<'t> {
     }
 
     // The join `p` takes a token on both sides, and appends what the operator makes of them, with
-    // the left one's tags. Handed back are the channels touched.
+    // the left one's tags. Returns the channels touched.
     pub(super) fn fire_join<U: Units>(
         &mut self,
         alloc: Global,

@@ -36,7 +36,7 @@ pub(super) fn last_element(cut: &Cut) -> u64
 }
 
 impl<'t> Store<'t> {
-    // Process `p` takes the first token of a channel, to hand it out in pieces. Handed back is the
+    // Process `p` takes the first token of a channel, to hand it out in pieces. Returns the
     // channel touched.
     pub(super) fn take_whole(&mut self, p: u32, input: u32) -> Touched
         requires there { p < length self.old.owns }
@@ -53,7 +53,7 @@ impl<'t> Store<'t> {
         Touched::one(input)
     }
 
-    // Process `p` takes the first token of a channel to those that it holds. Handed back is the
+    // Process `p` takes the first token of a channel to those that it holds. Returns the
     // channel touched. Refused, nothing changes.
     pub(super) fn take_piece(&mut self, p: u32, input: u32) -> Result<Touched, NoMemory>
         requires there { p < length self.old.owns }

@@ -61,8 +61,8 @@ impl<'t> Store<'t> {
         }
     }
 
-    // The scatter `p` sends the next element of the token that it holds, or takes a token. Handed
-    // back is the channel touched.
+    // The scatter `p` sends the next element of the token that it holds, or takes a token. Returns
+    // the channel touched.
     pub(super) fn fire_scatter(&mut self, alloc: Global, p: u32) -> Result<Touched, NoMemory>
         requires { MayFire self.old p ProcKind.Scatter }
         ensures done { IfGiven result (λ touched. (leaf : Leaf)
@@ -78,8 +78,8 @@ impl<'t> Store<'t> {
         }
     }
 
-    // The scatter `p` sends the next element of the token that it holds, and lets go of it after
-    // the last.
+    // The scatter `p` sends the next element of the token that it holds, and drops it after the
+    // last.
     fn send_element(&mut self, alloc: Global, p: u32) -> Result<Touched, NoMemory>
         requires may { MayFire self.old p ProcKind.Scatter }
         requires holds { has_first (own_at self.old.owns p).held ≡ true }

@@ -23,7 +23,7 @@ impl<'t> Store<'t> {
         item & room
     }
 
-    // The source `p` sends the item in the inbox. Handed back is the channel touched.
+    // The source `p` sends the item in the inbox. Returns the channel touched.
     pub(super) fn fire_source(&mut self, p: u32) -> Touched
         requires { MayFire self.old p ProcKind.Source }
         ensures { (leaf : Leaf) → Done leaf self.old self.new p result None }

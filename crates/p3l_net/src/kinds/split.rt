@@ -107,8 +107,8 @@ impl<'t> Store<'t> {
         }
     }
 
-    // The split `p` sends the next segment of the token that it holds, or takes a token. Handed
-    // back is the channel touched.
+    // The split `p` sends the next segment of the token that it holds, or takes a token. Returns
+    // the channel touched.
     pub(super) fn fire_split(&mut self, alloc: Global, p: u32) -> Result<Touched, NoMemory>
         requires { MayFire self.old p ProcKind.Split }
         ensures done { IfGiven result (λ touched. (leaf : Leaf)
@@ -124,7 +124,7 @@ impl<'t> Store<'t> {
         }
     }
 
-    // The split `p` sends the next segment of the token that it holds, and lets go of it after the
+    // The split `p` sends the next segment of the token that it holds, and drops it after the
     // last.
     fn send_segment(&mut self, alloc: Global, p: u32) -> Result<Touched, NoMemory>
         requires may { MayFire self.old p ProcKind.Split }

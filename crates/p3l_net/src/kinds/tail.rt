@@ -122,7 +122,7 @@ impl<'t> Store<'t> {
         lets_out | (comes & room)
     }
 
-    // The tail `p` lets a token out, if it can; else it takes one. Handed back are the channels
+    // The tail `p` lets a token out, if it can; else it takes one. Returns the channels
     // touched.
     pub(super) fn fire_tail<U: Units>(
         &mut self,

@@ -1,6 +1,7 @@
-use Rattle.std.proofs.Common.{◌≡◌, ◌<◌, ◌≤◌, List, length, arith, subst, sym, ap, ◌∙◌, replicate, get_or}
+use Rattle.std.proofs.Common.{◌≡◌, ◌<◌, ◌≤◌, List, length, arith, subst, sym, ap, ◌∙◌, replicate, map, get_or}
 use Rattle.std.specs.List.{AllByRecursion}
 use Rattle.p3l_firing.specs.declared.process.Proc.{Proc}
+use Rattle.p3l_net.specs.Descriptor.{descriptor_of}
 use Rattle.p3l_net.specs.Steps.{marked}
 use Rattle.p3l_net.proofs.Sides.{Entered, none_entered, all_entered, get_is, some_procs, outs_inside, ins_inside, entered_writers, entered_readers}
 use Rattle.p3l_net.proofs.ends.Sides.of.Goals as goal
@@ -37,6 +38,6 @@ returns c =
     let past = subst (λ (xs : List Proc). length xs ≤ c.loop-p.p) c.as_slice-procs.ensures c.loop-p-test.false in
     let high = subst (λ (xs : List Proc). c.loop-p.p ≤ length xs) c.as_slice-procs.ensures c.loop-p.auto.p-end in
     let whole : c.loop-p.p ≡ length c.args.net.now.procs = omega (arith, past, high) in
-    all_entered c.args.net.now _
+    all_entered c.args.net.now _ (c.in_ok-descriptors.ensures ∙ ap (map descriptor_of) c.as_slice-procs.ensures)
     (subst (λ n. Entered (λ (q : Proc). q.outs) c.args.net.now.procs (length c.args.net.now.chans) n c.loop-p.writers.items) whole c.loop-p.invariant.writers)
     (subst (λ n. Entered (λ (q : Proc). q.ins) c.args.net.now.procs (length c.args.net.now.chans) n c.loop-p.readers.items) whole c.loop-p.invariant.readers)

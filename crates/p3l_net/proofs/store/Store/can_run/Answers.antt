@@ -1,26 +1,12 @@
-use Rattle.std.proofs.Common.{◌<◌, ◌&&◌, length, sym, ap, ap₂, ◌∙◌, subst}
-use Rattle.p3l_firing.specs.Lists.{has_first}
-use Rattle.p3l_net.specs.Channel.{tokens_at}
-use Rattle.p3l_net.specs.Steps.{room_at}
-use Rattle.p3l_net.proofs.Standing.{one_long}
-use Rattle.p3l_net.proofs.step.Run.{fits_run, in_there, out_there, is_ready}
+use Rattle.std.proofs.Common.{◌&&◌, sym, ap₂, ◌∙◌}
+use Rattle.p3l_net.proofs.step.Run.{in_there, out_there, is_ready}
 use Rattle.p3l_net.proofs.store.Store.can_run.Goals as goal
 
-pub input-input-requires : goal.input-input-requires
-input-input-requires c = one_long _ _ (fits_run c.requires.stands c.requires.kind).ins
-
-pub output-output-requires : goal.output-output-requires
-output-output-requires c = one_long _ _ (fits_run c.requires.stands c.requires.kind).outs
-
 pub has_token-comes-requires : goal.has_token-comes-requires
-has_token-comes-requires c = subst (λ k. k < length c.args.self.now.queues) (sym c.input-input.ensures) (in_there c.requires.stands c.requires.kind)
+has_token-comes-requires c = in_there c.requires.sound c.requires.run
 
 pub has_room-room-requires : goal.has_room-room-requires
-has_room-room-requires c = subst (λ k. k < length c.args.self.now.queues) (sym c.output-output.ensures) (out_there c.requires.stands c.requires.kind)
+has_room-room-requires c = out_there c.requires.sound c.requires.run
 
 pub returns : goal.returns
-returns c =
-    ap₂ (λ a b. a && b)
-    (c.has_token-comes.ensures ∙ ap (λ k. has_first (tokens_at c.args.self.now.queues k)) c.input-input.ensures)
-    (c.has_room-room.ensures ∙ ap (room_at c.args.self.now) c.output-output.ensures)
-    ∙ sym (is_ready c.requires.stands c.requires.kind)
+returns c = ap₂ (λ a b. a && b) c.has_token-comes.ensures c.has_room-room.ensures ∙ sym (is_ready c.requires.sound c.requires.run)
