@@ -1,12 +1,12 @@
 use Rattle.std.proofs.Common.{◌∷◌, [], length, IfSome, sym, ap, ◌∙◌, subst, arith, length-append}
 use Rattle.std.specs.Prelude.{slice_get}
 use Rattle.p3l_registers.proofs.Added.{added}
-use Rattle.p3l_units.specs.Table.{IsBareNode}
+use Rattle.p3l_units.specs.Table.{Served, IsBareNode}
 use Rattle.p3l_units.proofs.table.bare_nodes.Goals as goal
 
 pub loop-node-preserved : goal.loop-node-preserved
 loop-node-preserved c =
-    let served = record { tree = c.args.tree.now; codes = c.args.codes.now } in
+    let served : Served = record { tree = c.args.tree.now; codes = c.args.codes.now } in
     let inv = c.loop-node.invariant in
     let more = c.in_ok-push.ensures.ok in
     record {
