@@ -1,6 +1,6 @@
 -- Bare nodes, as a table has them.
 use Rattle.std.proofs.Common.{◌≡◌, ℕ, ◌<◌, List, length, get_or, Option, Some, None, refl, subst, arith}
-use Rattle.std.specs.Prelude.{IfSome, IsSomeAnd, slice_get}
+use Rattle.std.specs.Prelude.{IfSome, IsSomeAnd}
 use Rattle.std.proofs.lemmas.Option.{slice_get-get_or, slice_get_read}
 use Rattle.p3l_code.specs.declared.instr.Code.{Code}
 use Rattle.p3l_units.specs.declared.table.BareNode.{BareNode}

@@ -1,6 +1,6 @@
 // Tables of units.
 
-ghost use Rattle.std.specs.Prelude.{◌≡◌, ◌<◌, length, slice_get, IfSome, Some};
+ghost use Rattle.std.specs.Prelude.{◌≡◌, ◌<◌, length, IfSome, Some};
 ghost use Rattle.p3l_base.specs.Memory.{IfGiven};
 ghost use Rattle.std.specs.List.{All};
 ghost use Rattle.p3l_skel.specs.declared.tree.Form.TheVariants as forms;
@@ -31,9 +31,9 @@ pub struct UnitTable<'t> {
 /// all that it does.
 #[derive(Clone, Copy, Drop)]
 pub struct BareNode {
-    /// The place of its code.
-    place: u32,
-    module: u32,
+    /// The place of its code among the codes of the table.
+    pub place: u32,
+    pub module: u32,
 }
 
 impl<'t> Model for UnitTable<'t> {

@@ -1,4 +1,4 @@
-use Rattle.std.proofs.Common.{◌≡◌, ◌<◌, None, length, get_or, sym, ap, ◌∙◌, subst, arith}
+use Rattle.std.proofs.Common.{◌<◌, None, length, get_or, sym, ap, ◌∙◌, subst}
 use Rattle.p3l_code.specs.declared.instr.Code.{Code}
 use Rattle.p3l_units.specs.Table.{Served, DoesNode, IsBareNode}
 use Rattle.p3l_units.proofs.Bare.{bare_at, bare_inside, bare_does}
