@@ -11,10 +11,10 @@ use Rattle.p3l_skel.proofs.Depth.{lawful_at}
 use Rattle.p3l_skel.proofs.Parts.{row_at}
 use Rattle.p3l_code.specs.declared.instr.Code.{Code}
 use Rattle.p3l_code.specs.Machine.{exec}
-use Rattle.p3l_units.specs.Table.{Served, is_seq_kind, if_seq, code_of, seqs_before, HasWordsOf, leaf, IsTable, DoesNode}
+use Rattle.p3l_units.specs.Table.{Served, is_seq_kind, if_seq, code_of, seqs_before, HasWordsOf, leaf, ArePlaced, DoesNode}
 use Rattle.p3l_units.specs.laws.Leaf.{leaves_are_runs}
 
-there_within : {A : Type 0} (P : A → Type 0) (xs : List A) (i : ℕ) → IsSomeAnd (slice_get xs i) P → i < length xs
+pub there_within : {A : Type 0} (P : A → Type 0) (xs : List A) (i : ℕ) → IsSomeAnd (slice_get xs i) P → i < length xs
 there_within P [] i has = absurd has
 there_within P (x ∷ xs) zero has = omega arith
 there_within P (x ∷ xs) (suc i) has = let h = there_within P xs i has in omega arith
@@ -28,7 +28,7 @@ seq_found {A} P (Some info) found has = by (is_seq_kind info.kind) has
     by true h = refl
     by false h = absurd h
 
-module _ (served : Served) (places : List ℕ) (is : IsTable served.tree served.codes places) (k : ℕ) (there : k < length served.tree.nodes) (seq : (node_at served.tree k).form ≡ forms.Seq) where
+module _ (served : Served) (places : List ℕ) (is : ArePlaced served.tree served.codes places) (k : ℕ) (there : k < length served.tree.nodes) (seq : (node_at served.tree k).form ≡ forms.Seq) where
   pub module_inside : (node_at served.tree k).module < length served.tree.modules
   module_inside =
       there_within (λ (m : ModuleInfo). m.kind ≡ kind_of (node_at served.tree k).form) served.tree.modules (node_at served.tree k).module (lawful_at served.tree is.lawful k there).kind
@@ -44,13 +44,17 @@ module _ (served : Served) (places : List ℕ) (is : IsTable served.tree served.
   unfolding module_inside
   place_is place e = e ∙ get_or_from_slice_get places (node_at served.tree k).module (seqs_before served.tree.modules (node_at served.tree k).module) 0 (is.have_places (node_at served.tree k).module module_inside)
 
+  -- a code is at the place of its module
+  pub place_inside : (place : ℕ) → place ≡ get_or places (node_at served.tree k).module 0 → place < length served.codes
+  unfolding has_words own_place place_is
+  place_inside place at =
+      subst (λ n. n < length served.codes) (sym (place_is place at)) (there_within (HasWordsOf (node_at served.tree k)) served.codes (seqs_before served.tree.modules (node_at served.tree k).module) (subst (λ o. IsSomeAnd o (HasWordsOf (node_at served.tree k))) own_place has_words))
+
   -- the code at the place of its module is its own
   pub own_code : (place : ℕ) (code : Code) → place ≡ get_or places (node_at served.tree k).module 0 → code ≡ get_or served.codes place code → code_of served (node_at served.tree k).module ≡ Some code
   unfolding has_words own_place place_is
   own_code place code at found =
-      let e = place_is place at in
-      let low : place < length served.codes = subst (λ n. n < length served.codes) (sym e) (there_within (HasWordsOf (node_at served.tree k)) served.codes (seqs_before served.tree.modules (node_at served.tree k).module) (subst (λ o. IsSomeAnd o (HasWordsOf (node_at served.tree k))) own_place has_words)) in
-      own_place ∙ ap (slice_get served.codes) (sym e) ∙ slice_get_read served.codes (length served.codes) place code refl low found
+      own_place ∙ ap (slice_get served.codes) (sym (place_is place at)) ∙ slice_get_read served.codes (length served.codes) place code refl (place_inside place at) found
 
   module _ (code : Code) (own : code_of served (node_at served.tree k).module ≡ Some code) where
     takes_ins : code.ins ≡ (node_at served.tree k).ins

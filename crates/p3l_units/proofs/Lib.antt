@@ -1,3 +1,4 @@
 pub mod Places
 pub mod Body
+pub mod Bare
 pub mod Given

@@ -1,5 +1,5 @@
 -- The codes of a tree's `seq` modules, and what they make of words.
-use Rattle.std.specs.Prelude.{◌≡◌, ℕ, ℤ, zero, suc, ◌+◌, ◌<◌, Bool, true, false, ◌&&◌, nat_eq, if◌then◌else◌, List, [], ◌∷◌, length, Option, Some, None, IsSomeAnd, slice_get}
+use Rattle.std.specs.Prelude.{◌≡◌, ℕ, ℤ, zero, suc, ◌+◌, ◌<◌, Bool, true, false, ◌&&◌, nat_eq, if◌then◌else◌, List, [], ◌∷◌, length, Option, Some, None, IsSomeAnd, IfSome, slice_get}
 use Rattle.std.specs.List.{All}
 use Rattle.p3l_base.specs.declared.outcome.Outcome.{Outcome}
 use Rattle.p3l_base.specs.declared.outcome.Outcome.TheVariants.{Trapped}
@@ -16,6 +16,7 @@ use Rattle.p3l_skel.specs.Lawful.{IsLawfulTree}
 use Rattle.p3l_skel.specs.Item.{item}
 use Rattle.p3l_code.specs.declared.instr.Code.{Code}
 use Rattle.p3l_code.specs.Machine.{exec}
+use Rattle.p3l_units.specs.declared.table.BareNode.{BareNode}
 
 -- a tree, and a code for each of its `seq` modules in their order
 pub record Served : Type 0 where
@@ -103,9 +104,23 @@ pub record DoesNode (served : Served) (k : ℕ) (code : Code) (m : ℕ) : Type 0
 abbrev pub HasPlaces : List ModuleInfo → List ℕ → Type 0
 HasPlaces modules places = (m : ℕ) → m < length modules → slice_get places m ≡ Some (seqs_before modules m)
 
--- the invariant of a table of units: the tree is lawful, its `seq` nodes have codes, and the place of each
--- module's code is noted
-pub record IsTable (tree : Tree) (codes : List Code) (places : List ℕ) : Type 0 where
+-- the code at the place of a bare node does all that node k does
+abbrev pub IsBareNode : Served → ℕ → BareNode → Type 0
+IsBareNode served k bare = IsSomeAnd (slice_get served.codes bare.place) (λ code. DoesNode served k code bare.«module»)
+
+-- for each node, the bare node that it is, if it is one
+pub record HasBareNodes (served : Served) (bare_nodes : List (Option BareNode)) : Type 0 where
+  pub whole : length bare_nodes ≡ length served.tree.nodes
+  pub each : (k : ℕ) (found : Option BareNode) → slice_get bare_nodes k ≡ Some found → IfSome found (IsBareNode served k)
+
+-- the tree is lawful, its `seq` nodes have codes, and the place of each module's code is noted
+pub record ArePlaced (tree : Tree) (codes : List Code) (places : List ℕ) : Type 0 where
   pub lawful : IsLawfulTree tree
   pub have_codes : All (HasCode (record { tree = tree; codes = codes })) tree.nodes
   pub have_places : HasPlaces tree.modules places
+
+-- the invariant of a table of units: the codes of the tree's `seq` nodes are found by their places, and those of
+-- its bare nodes by one look
+pub record IsTable (tree : Tree) (codes : List Code) (places : List ℕ) (bare_nodes : List (Option BareNode)) : Type 0 where
+  pub placed : ArePlaced tree codes places
+  pub bare : HasBareNodes (record { tree = tree; codes = codes }) bare_nodes

@@ -6,7 +6,7 @@ ghost use Rattle.std.specs.List.{All};
 ghost use Rattle.p3l_skel.specs.declared.tree.Form.TheVariants as forms;
 ghost use Rattle.p3l_skel.specs.Tree.{node_at};
 ghost use Rattle.p3l_skel.specs.Lawful.{IsLawfulTree};
-ghost use Rattle.p3l_units.specs.Table.{code_of, DoesNode, HasCode, HasPlaces, leaf, LeavesAreRuns, one_if_seq};
+ghost use Rattle.p3l_units.specs.Table.{ArePlaced, code_of, DoesNode, HasBareNodes, HasCode, HasPlaces, IsBareNode, leaf, LeavesAreRuns, one_if_seq};
 
 use p3l_base::{List, NoMemory, Outcome, Words};
 use p3l_code::SafeCode;
@@ -23,6 +23,17 @@ pub struct UnitTable<'t> {
     codes: List<Executable>,
     // For each module, how many `seq` modules are before it.
     places: List<u32>,
+    // For each node, the code that does all of its work in registers, if one does.
+    bare_nodes: List<Option<BareNode>>,
+}
+
+/// A `seq` node whose code runs in registers and whose module rescues no trap: a run of the code is
+/// all that it does.
+#[derive(Clone, Copy, Drop)]
+pub struct BareNode {
+    /// The place of its code among the codes of the table.
+    pub place: u32,
+    pub module: u32,
 }
 
 impl<'t> Model for UnitTable<'t> {
@@ -32,7 +43,7 @@ impl<'t> Model for UnitTable<'t> {
 
     ghost view = { λ it. record { tree = it.tree.now; codes = it.codes } };
 
-    ghost invariant = { λ it. IsTable it.tree.now it.codes it.places };
+    ghost invariant = { λ it. IsTable it.tree.now it.codes it.places it.bare_nodes };
 }
 
 impl<'t> UnitTable<'t> {
@@ -48,10 +59,12 @@ impl<'t> UnitTable<'t> {
     {
         let places = code_places(alloc, tree)?;
         let codes = executables(alloc, codes)?;
+        let bare_nodes = bare_nodes(alloc, tree, places.as_slice(), codes.as_slice())?;
         Ok(UnitTable {
             tree,
             codes,
             places,
+            bare_nodes,
         })
     }
 
@@ -70,15 +83,9 @@ impl<'t> UnitTable<'t> {
         requires { node < length self.now.tree.nodes }
         ensures { IfSome result (λ bare. DoesNode self.now node bare.0.now bare.1) }
     {
-        let found = self.tree.node(node)?;
-        let Form::Seq = found.form else {
-            return None;
-        };
-        if self.tree.rescue_of(found.module).is_some() {
-            return None;
-        }
-        let code = self.code_of(node, found.module).in_registers()?;
-        Some((code, found.module))
+        let bare = self.bare_nodes.as_slice()[node as usize]?;
+        let code = self.codes.as_slice()[bare.place as usize].in_registers()?;
+        Some((code, bare.module))
     }
 
     /// Runs the code of a `seq` node.
@@ -132,6 +139,46 @@ fn code_places(alloc: Global, tree: &Tree) -> Result<List<u32>, NoMemory>
         before += one_if_seq(info.kind);
     }
     Ok(places)
+}
+
+// For each node, the code that does all of its work in registers, if one does.
+fn bare_nodes(
+    alloc: Global,
+    tree: &Tree,
+    places: &[u32],
+    codes: &[Executable],
+) -> Result<List<Option<BareNode>>, NoMemory>
+    requires { ArePlaced tree.now codes.now places.now }
+    ensures { IfGiven result (HasBareNodes (record { tree = tree.now; codes = codes.now })) }
+{
+    let mut bare_nodes = List::new(alloc);
+    for node in 0..tree.nodes.len() {
+        bare_nodes.push(bare_node(tree, places, codes, node))?;
+    }
+    Ok(bare_nodes)
+}
+
+// The code that does all of a node's work in registers, if one does.
+fn bare_node(tree: &Tree, places: &[u32], codes: &[Executable], node: usize) -> Option<BareNode>
+    requires placed { ArePlaced tree.now codes.now places.now }
+    requires there { node < length tree.now.nodes }
+    ensures { IfSome result (IsBareNode (record { tree = tree.now; codes = codes.now }) node) }
+{
+    let found = &tree.nodes.as_slice()[node];
+    let Form::Seq = found.form else {
+        return None;
+    };
+    if tree.rescue_of(found.module).is_some() {
+        return None;
+    }
+    let place = places[found.module as usize];
+    if !codes[place as usize].is_in_registers() {
+        return None;
+    }
+    Some(BareNode {
+        place,
+        module: found.module,
+    })
 }
 
 // 1 for a `seq` module, else 0.

@@ -16,7 +16,7 @@ returns c =
     let found : c.in-Some.found.now ≡ node_at c.args.self.now.tree k = c.in-Some.ensures.found ∙ ap (λ (s : Served). node_at s.tree k) c.self.view_is in
     let Goal : Served → Type 0 = λ s. k < length s.tree.nodes → (node_at s.tree k).form ≡ forms.Seq → length words ≡ (node_at s.tree k).ins → code_of s (node_at s.tree k).module ≡ Some code → exec code (node_at s.tree k).module words ≡ leaf s (node_at s.tree k).module words in
     let here : Goal (record { tree = c.self.inside.tree.now; codes = c.self.inside.codes }) =
-    λ there form fits own. runs_body _ c.self.inside.places c.self.invariant k there form code own words fits in
+    λ there form fits own. runs_body _ c.self.inside.places c.self.invariant.placed k there form code own words fits in
     given-same c.run.result _ _
     (ap (λ (n : Node). exec code n.module words) found
     ∙ subst Goal c.self.view_is here c.requires.there c.requires.form c.requires.fits c.code_of-code.ensures)
