@@ -1,9 +1,11 @@
 -- A walk along a trace: its first state, what is fed, each line, and the end.
-use Rattle.std.proofs.Common.{◌≡◌, ◌≢◌, ℕ, ℤ, suc, ◌+◌, ◌-◌, ◌<◌, ◌≤◌, ◌^◌, Bool, true, false, List, [], ◌∷◌, ◌++◌, length, take, drop, get_or, Option, Some, None, inl, inr, refl, sym, ap, subst, ◌∙◌, arith, append_assoc, append-nil, zero-add}
+use Rattle.std.proofs.Common.{◌≡◌, ◌≢◌, ℕ, ℤ, suc, ◌+◌, ◌-◌, ◌<◌, ◌≤◌, ◌^◌, Bool, true, false, List, [], ◌∷◌, ◌++◌, length, take, drop, get_or, Option, Some, None, Result, Ok, Err, OnErr, inl, inr, refl, sym, ap, subst, ◌∙◌, arith, append_assoc, append-nil, zero-add}
 use Rattle.std.specs.Option.{option_to_list}
 use Rattle.std.proofs.Math.Seq.{take-append_seam, take-suc}
 use Rattle.std.proofs.lemmas.List.{length-append, length-take-le, take-append-drop, take_all}
+use Rattle.p3l_base.specs.declared.NoMemory.{NoMemory}
 use Rattle.p3l_base.specs.declared.outcome.Outcome.{Outcome}
+use Rattle.p3l_base.specs.Memory.{OnGiven, Refused}
 use Rattle.p3l_firing.specs.declared.net.Net.{Net}
 use Rattle.p3l_skel.specs.declared.tree.Tree.{Tree}
 use Rattle.p3l_skel.specs.Tree.{node_at}
@@ -18,7 +20,7 @@ use Rattle.p3l_firing.specs.State.{first_state, with_rest}
 use Rattle.p3l_stream.specs.declared.items.Ending.{Ending}
 use Rattle.p3l_stream.specs.Given.{HasGiven}
 use Rattle.p3l_stream.specs.Seen as stream
-use Rattle.p3l_run.specs.Feed.{Feeds, Offers, closed_so, input_limit, most_of_input}
+use Rattle.p3l_run.specs.Feed.{Feeds, IsFed, Offers, ending_of, input_limit, most_of_input}
 use Rattle.p3l_run.specs.Laws.{Laws, Runs}
 use Rattle.p3l_run.specs.Network.{Network, begun_with, course_under, width_of}
 use Rattle.p3l_run.specs.Run.{MayCome}
@@ -31,7 +33,7 @@ use Rattle.p3l_trace.specs.declared.trace.Traced.{Traced}
 use Rattle.p3l_trace.specs.Agreement.{AgreeFrom, AgreesIn, AgreesWith, AllAgree, IsCounted, picks_of}
 use Rattle.p3l_run.specs.declared.comparison.Comparison.{Comparison}
 use Rattle.p3l_run.specs.Retraced.{AgreesOn, DiffersOn, IsRequestedBy, one_waits, picks_to, sent_before_last}
-use Rattle.p3l_run.specs.Comparison.{AwaitsLine, HasPassed, IsAt, Passes, Stands, Steps, StepsIf, Walks, started}
+use Rattle.p3l_run.specs.Comparison.{AwaitsLine, FeedsOn, HasPassed, IsAt, Passes, Stands, Steps, StepsIf, Walks, started}
 
 no_end : (e : Ending) → ◌≡◌ {A = Option Ending} None (Some e) → ⊥
 no_end e h = cc
@@ -177,13 +179,10 @@ module _ (n : Network) where
       pub wide : w.stream.words ≡ (node_at w.machine.tree 0).ins
       wide = d.gives.given.width_is ∙ sym same_width
 
-      pub unended : w.close ≡ None → w.stream.closed ≡ None
-      unended none = d.gives.closed_is ∙ ap closed_so none
-
       -- no machine fires more often than this number
       pub fired_fits : w.machine.fired < 2 ^ 63
       fired_fits =
-          let may = nothing_comes n w.close in
+          let may = nothing_comes n (ending_of w.stream) in
           let items : List (List ℤ) = d.items ++ [] in
           let all_wide : HaveInWords n.tree items = wide_append (width_of n) d.items [] d.stands.wide may.wide in
           let a = d.laws.fired_most items all_wide (picks_of walked) in
@@ -194,21 +193,20 @@ module _ (n : Network) where
           let fits = d.fits in
           omega (arith, a, most, same, fits)
 
-      fed_empty : (m : Seen) (close : Option Ending) (more : List (List ℤ)) → Offers w.machine m more → (more ≢ [] → w.close ≡ None) → ((e : Ending) → w.close ≡ None → close ≡ Some e → m.inbox ≡ None) →
+      fed_empty : (m : Seen) (close : Option Ending) (more : List (List ℤ)) → Offers w.machine m more → (more ≢ [] → ending_of w.stream ≡ None) → ((e : Ending) → ending_of w.stream ≡ None → close ≡ Some e → m.inbox ≡ None) →
           (e : Ending) → close ≡ Some e → m.inbox ≡ None
-      fed_empty m close more offers request empty e ends = by w.close refl
+      fed_empty m close more offers request empty e ends = by (ending_of w.stream) refl
         where
-          by : (c : Option Ending) → w.close ≡ c → m.inbox ≡ None
+          by : (c : Option Ending) → ending_of w.stream ≡ c → m.inbox ≡ None
           by None is = empty e is ends
-          by (Some x) is = still_empty w.machine m w.close more offers request x is (d.empty x is)
+          by (Some x) is = still_empty w.machine m (ending_of w.stream) more offers request x is (d.empty x is)
 
       -- the machine was fed
-      pub fed : (m : Seen) (s : stream.Seen) (after : Observation (List ℕ)) (close : Option Ending) → Feeds (node_at w.machine.tree 0).ins w.machine m w.stream s (change now after) w.close close →
-          AwaitsLine n (change first after) walked (record w { machine = m; stream = s; close = close })
-      fed m s after close feeds =
-          let f : Feeds (width_of n) w.machine m w.stream s (change now after) w.close close = subst (λ k. Feeds k w.machine m w.stream s (change now after) w.close close) same_width feeds in
-          let stands : Stands n m (d.items ++ f.more) close d.outcomes walked = stands_fed d.laws w.machine m d.items w.close close d.outcomes walked d.stands f.kept f.more f.offers f.wide f.request in
-          let empty : (e : Ending) → close ≡ Some e → m.inbox ≡ None = fed_empty m close f.more f.offers f.request f.empty in
+      pub fed : (m : Seen) (s : stream.Seen) (after : Observation (List ℕ)) → Feeds (node_at w.machine.tree 0).ins w.machine m w.stream s (change now after) → AwaitsLine n (change first after) walked (record w { machine = m; stream = s })
+      fed m s after feeds =
+          let f : Feeds (width_of n) w.machine m w.stream s (change now after) = subst (λ k. Feeds k w.machine m w.stream s (change now after)) same_width feeds in
+          let stands : Stands n m (d.items ++ f.more) (ending_of s) d.outcomes walked = stands_fed d.laws w.machine m d.items (ending_of w.stream) (ending_of s) d.outcomes walked d.stands f.kept f.more f.offers f.wide f.request in
+          let empty : (e : Ending) → ending_of s ≡ Some e → m.inbox ≡ None = fed_empty m (ending_of s) f.more f.offers f.request f.empty in
           record {
             passed = record {
               laws = d.laws;
@@ -221,7 +219,7 @@ module _ (n : Network) where
               empty = empty;
             };
             filled = f.filled;
-            waits = waits_so d.laws d.fresh_is m (d.items ++ f.more) close d.outcomes walked stands f.filled empty;
+            waits = waits_so d.laws d.fresh_is m (d.items ++ f.more) (ending_of s) d.outcomes walked stands f.filled empty;
           }
 
     module _ (now : Observation (List ℕ)) (walked : List TraceLine) (w : Comparison) (walks : Walks n (change first now) walked w) where
@@ -229,24 +227,24 @@ module _ (n : Network) where
       so = walks.passed
 
       -- the trace is one of a run
-      pub agrees_on : (traced : Traced) → traced.lines ≡ walked → IsCounted traced → AgreesOn n traced (change first now) w.close
+      pub agrees_on : (traced : Traced) → traced.lines ≡ walked → IsCounted traced → AgreesOn n traced (change first now) (ending_of w.stream)
       agrees_on traced all counted = record {
         stream = w.stream;
         items = so.items;
         gives = so.gives;
-        request = λ later may. subst (λ k. IsRequestedBy n (so.items ++ later) (picks_of k) (length so.items) w.close) (sym all) (walks.request later may);
+        request = λ later may. subst (λ k. IsRequestedBy n (so.items ++ later) (picks_of k) (length so.items) (ending_of w.stream)) (sym all) (walks.request later may);
         holds = λ later may. record { lines = subst (λ k. AllAgree n.tree n.leaf n.net (begun_with n (so.items ++ later)) k) (sym all) (so.stands.at later may).agree; counts = counted };
       }
 
       -- or its counts are not those of its lines
       pub miscounts_on : (traced : Traced) (number : ℕ) → traced.lines ≡ walked → (IsCounted traced → ⊥) → number ≡ length traced.lines + 2 → DiffersOn n traced (change first now) number
       miscounts_on traced number all other is = (
-        w.close,
+        ending_of w.stream,
         record {
           stream = w.stream;
           items = so.items;
           gives = so.gives;
-          request = λ later may. subst (λ k. IsRequestedBy n (so.items ++ later) k (length so.items) w.close) (ap picks_of (sym all) ∙ sym (all_picks traced number is)) (walks.request later may);
+          request = λ later may. subst (λ k. IsRequestedBy n (so.items ++ later) k (length so.items) (ending_of w.stream)) (ap picks_of (sym all) ∙ sym (all_picks traced number is)) (walks.request later may);
           holds = λ later may. inr (record { agree = subst (λ k. AllAgree n.tree n.leaf n.net (begun_with n (so.items ++ later)) k) (sym all) (so.stands.at later may).agree; other = other; number_is = is });
         },
       )
@@ -258,31 +256,31 @@ module _ (n : Network) where
       abbrev course : List (List ℤ) → Course
       course later = course_under n (d.items ++ later) (picks_of walked)
 
-      filled : (later : List (List ℤ)) → MayCome n w.close later → HasFilledInbox w.machine later
-      filled = filled_after n w.close w.machine a.filled
+      filled : (later : List (List ℤ)) → MayCome n (ending_of w.stream) later → HasFilledInbox w.machine later
+      filled = filled_after n (ending_of w.stream) w.machine a.filled
 
-      can_same : (later : List (List ℤ)) → MayCome n w.close later → can_fire n.tree n.net (course later).state line.pick ≡ can_step w.machine line.pick
+      can_same : (later : List (List ℤ)) → MayCome n (ending_of w.stream) later → can_fire n.tree n.net (course later).state line.pick ≡ can_step w.machine line.pick
       can_same later may =
           at_network w.machine d.stands.runs (λ t k. can_fire t k (course later).state line.pick ≡ can_step w.machine line.pick)
           (d.laws.can_fires w.machine d.outcomes later (course later) line.pick (d.stands.at later may).follows (filled later may))
 
       -- items were requested before the line's pick too
-      request_more : (later : List (List ℤ)) → MayCome n w.close later → IsRequestedBy n (d.items ++ later) (picks_of (walked ++ line ∷ [])) (length d.items) w.close
+      request_more : (later : List (List ℤ)) → MayCome n (ending_of w.stream) later → IsRequestedBy n (d.items ++ later) (picks_of (walked ++ line ∷ [])) (length d.items) (ending_of w.stream)
       unfolding with_rest state_of
       request_more later may =
-          subst (λ ps. IsRequestedBy n (d.items ++ later) ps (length d.items) w.close) (sym (picks_more walked line))
-          (request_last (d.items ++ later) (picks_of walked) line.pick (length d.items) w.close
-          (a.waits ∙ ap (λ k. k + one_waits w.close) (ap (λ x. x.sent) (d.stands.at later may).follows.state)))
+          subst (λ ps. IsRequestedBy n (d.items ++ later) ps (length d.items) (ending_of w.stream)) (sym (picks_more walked line))
+          (request_last (d.items ++ later) (picks_of walked) line.pick (length d.items) (ending_of w.stream)
+          (a.waits ∙ ap (λ k. k + one_waits (ending_of w.stream)) (ap (λ x. x.sent) (d.stands.at later may).follows.state)))
 
       -- the line differs
       pub differs_on : (traced : Traced) (after : List TraceLine) (number : ℕ) → traced.lines ≡ walked ++ line ∷ after → (AgreesWith w.machine line → ⊥) → number ≡ length walked + 2 → DiffersOn n traced (change first now) number
       differs_on traced after number are other is = (
-        w.close,
+        ending_of w.stream,
         record {
           stream = w.stream;
           items = d.items;
           gives = d.gives;
-          request = λ later may. subst (λ k. IsRequestedBy n (d.items ++ later) (picks_of k) (length d.items) w.close) (sym (lines_to traced.lines walked line after number are is)) (request_more later may);
+          request = λ later may. subst (λ k. IsRequestedBy n (d.items ++ later) (picks_of k) (length d.items) (ending_of w.stream)) (sym (lines_to traced.lines walked line after number are is)) (request_more later may);
           holds = λ later may. inl (record {
             front = walked;
             line = line;
@@ -297,14 +295,14 @@ module _ (n : Network) where
 
       -- the line agrees, and its pick is made
       module _ (agrees : AgreesWith w.machine line) where
-        agrees_in : (later : List (List ℤ)) → MayCome n w.close later → AgreesIn n.tree n.net (course later).state line
+        agrees_in : (later : List (List ℤ)) → MayCome n (ending_of w.stream) later → AgreesIn n.tree n.net (course later).state line
         agrees_in later may = same_line _ _ w.machine.net n.net line (sym (can_same later may)) d.stands.runs.net agrees
 
         one_more : (later : List (List ℤ)) → course_under n (d.items ++ later) (picks_of (walked ++ line ∷ [])) ≡ picked n.tree n.leaf n.net (course later) line.pick
         one_more later = ap (course_under n (d.items ++ later)) (picks_more walked line) ∙ d.laws.one_more _ (picks_of walked) line.pick
 
         walks_on : (m : Seen) (handed : Option Outcome) → Runs n m
-            → ((later : List (List ℤ)) → MayCome n w.close later → Follows m (d.outcomes ++ option_to_list handed) later (picked w.machine.tree n.leaf w.machine.net (course later) line.pick)) → Walks n (change first now) (walked ++ line ∷ []) (record w { machine = m })
+            → ((later : List (List ℤ)) → MayCome n (ending_of w.stream) later → Follows m (d.outcomes ++ option_to_list handed) later (picked w.machine.tree n.leaf w.machine.net (course later) line.pick)) → Walks n (change first now) (walked ++ line ∷ []) (record w { machine = m })
         walks_on m handed runs follows = record {
           passed = record {
             laws = d.laws;
@@ -322,13 +320,13 @@ module _ (n : Network) where
               };
             };
             empty = λ e ends.
-                stays_empty d.laws d.fresh_is w.machine d.items w.close d.outcomes walked d.stands m (d.outcomes ++ option_to_list handed) line.pick
-                (follows_on [] (nothing_comes n w.close)) (d.empty e ends);
+                stays_empty d.laws d.fresh_is w.machine d.items (ending_of w.stream) d.outcomes walked d.stands m (d.outcomes ++ option_to_list handed) line.pick
+                (follows_on [] (nothing_comes n (ending_of w.stream))) (d.empty e ends);
           };
           request = request_more;
         }
           where
-            follows_on : (later : List (List ℤ)) → MayCome n w.close later → Follows m (d.outcomes ++ option_to_list handed) later (picked n.tree n.leaf n.net (course later) line.pick)
+            follows_on : (later : List (List ℤ)) → MayCome n (ending_of w.stream) later → Follows m (d.outcomes ++ option_to_list handed) later (picked n.tree n.leaf n.net (course later) line.pick)
             follows_on later may =
                 at_network w.machine d.stands.runs (λ t k. Follows m (d.outcomes ++ option_to_list handed) later (picked t n.leaf k (course later) line.pick)) (follows later may)
 
@@ -351,6 +349,12 @@ module _ (n : Network) where
             by true can step =
                 subst (Walks n (change first now) (walked ++ line ∷ [])) (sym step.2) (fired new.machine step.0 can (subst (λ l. Fires l w.machine new.machine line.pick step.0) (sym leaf_is) step.1))
             by false cannot same = subst (Walks n (change first now) (walked ++ line ∷ [])) (sym same) (idle cannot)
+
+-- whatever the network is, a comparison is fed as its machine is
+pub feeds_on : (w : Comparison) (m : Seen) (s : stream.Seen) (old new : Observation (List ℕ)) (result : Result (Unit {0}) NoMemory) → IsFed (node_at w.machine.tree 0).ins w.machine m w.stream s (change old new) result → OnErr result Refused →
+    OnGiven result (FeedsOn (change old new) w (record w { machine = m; stream = s }))
+feeds_on w m s old new (Ok done) feeds wants = λ n first walked d. fed n first old walked w d m s new feeds
+feeds_on w m s old new (Err want) vain wants = wants
 
 next : (i : ℕ) → i + 1 ≡ suc i
 next i = omega arith
@@ -394,7 +398,7 @@ module _ (n : Network) (first now : Observation (List ℕ)) (traced : Traced) (l
     all : traced.lines ≡ front
     all = sym (take_all passed traced.lines (subst (λ l. length l ≤ passed) same past))
 
-    pub lines_agree : IsCounted traced → AgreesOn n traced (change first now) w.close
+    pub lines_agree : IsCounted traced → AgreesOn n traced (change first now) (ending_of w.stream)
     lines_agree = agrees_on n first now front w walks traced all
 
     pub counts_differ : passed ≤ length lines → (IsCounted traced → ⊥) → (number : ℕ) → number ≡ passed + 2 → DiffersOn n traced (change first now) number

@@ -1,7 +1,8 @@
 -- A run under way: its first state, what is fed, each pick, and its end.
-use Rattle.std.proofs.Common.{◌≡◌, ◌≢◌, ℕ, ℤ, ◌+◌, ◌*◌, ◌<◌, ◌≤◌, ◌^◌, Bool, true, false, List, [], ◌∷◌, ◌++◌, length, fold, Option, Some, None, Ok, Err, IsTrue, IsNone, IsSome, inl, inr, refl, sym, ap, subst, ◌∙◌, arith, append_assoc, append-nil, length-append}
+use Rattle.std.proofs.Common.{◌≡◌, ◌≢◌, ℕ, ℤ, ◌+◌, ◌*◌, ◌<◌, ◌≤◌, ◌^◌, Bool, true, false, List, [], ◌∷◌, ◌++◌, length, fold, Option, Some, None, Result, Ok, Err, IsTrue, IsNone, IsSome, inl, inr, refl, sym, ap, subst, ◌∙◌, arith, append_assoc, append-nil, length-append}
 use Rattle.std.specs.Option.{option_to_list}
 use Rattle.std.proofs.lemmas.Bool.{cond-false, cond-true}
+use Rattle.p3l_base.specs.declared.NoMemory.{NoMemory}
 use Rattle.p3l_base.specs.declared.outcome.Outcome.{Outcome}
 use Rattle.p3l_base.specs.declared.outcome.Trap.{Trap}
 use Rattle.p3l_firing.specs.declared.process.ProcKind.{ProcKind}
@@ -36,8 +37,8 @@ use Rattle.p3l_run.specs.declared.keeping.Keeping.{Keeping}
 use Rattle.p3l_run.specs.declared.keeping.Keeping.TheVariants as keep
 use Rattle.p3l_run.specs.declared.run.Ran.{Ran}
 use Rattle.p3l_run.specs.declared.write.Emitted.{Emitted}
-use Rattle.p3l_run.specs.Execution.{AwaitsPick, Ends, Executes, GoesOn, HasFired, IsFinish, IsInRange, IsOver, Job, Picks, after_idle, begun_on, kept_with, left_at, stats_at}
-use Rattle.p3l_run.specs.Feed.{Feeds, FeedsInVain, closed_so, input_limit, most_of_input}
+use Rattle.p3l_run.specs.Execution.{AwaitsPick, Ends, Executes, FeedsOn, GoesOn, HasFired, IsFinish, IsInRange, IsOver, Job, Picks, after_idle, begun_on, kept_with, left_at, stats_at}
+use Rattle.p3l_run.specs.Feed.{Feeds, FeedsInVain, IsFed, closed_so, ending_of, input_limit, most_of_input}
 use Rattle.p3l_run.specs.Keeping.{kept_by}
 use Rattle.p3l_run.specs.Laws.{Laws}
 use Rattle.p3l_run.specs.Network.{Network, begun_with, course_of, course_under, goes_on, is_some, meaning_of, most_firings, size_of, width_of}
@@ -127,9 +128,6 @@ module _ (job : Job) where
     pub wide : e.stream.words ≡ (node_at e.machine.tree 0).ins
     wide = d.gives.given.width_is ∙ sym same_width
 
-    pub unended : e.close ≡ None → e.stream.closed ≡ None
-    unended none = d.gives.closed_is ∙ ap closed_so none
-
     few_items : length d.items ≤ most_of_input
     few_items = (let few = d.gives.few in omega arith)
 
@@ -138,7 +136,7 @@ module _ (job : Job) where
 
     few_fired : e.machine.fired < 2 ^ 63
     few_fired =
-        let a = steps.few_fired n d.laws job.schedule e.machine e.picker d.items e.close d.outcomes e.idle d.walked d.stands in
+        let a = steps.few_fired n d.laws job.schedule e.machine e.picker d.items (ending_of e.stream) d.outcomes e.idle d.walked d.stands in
         let b = few_firings in
         let c = d.fits in
         omega arith
@@ -161,57 +159,59 @@ module _ (job : Job) where
       ends = record {
         stream = e.stream;
         items = d.items;
-        closed = closed_so e.close;
+        closed = closed_so (ending_of e.stream);
         gives = d.gives;
-        begun = steps.begun_by (meaning_of n d.items) d.outcomes (change job.before.output now.output) (steps.begins_all n d.laws job.schedule e.machine e.picker d.items e.close d.outcomes e.idle d.walked d.stands) d.put;
+        begun = steps.begun_by (meaning_of n d.items) d.outcomes (change job.before.output now.output) (steps.begins_all n d.laws job.schedule e.machine e.picker d.items (ending_of e.stream) d.outcomes e.idle d.walked d.stands) d.put;
         emits = λ later may.
             steps.begun_by (course_of n job.schedule (d.items ++ later)).state.emitted d.outcomes (change job.before.output now.output)
-            (steps.begins_emitted n d.laws job.schedule e.machine e.picker d.items e.close d.outcomes e.idle d.walked d.stands later (steps.may_come n e.close later may)) d.put;
+            (steps.begins_emitted n d.laws job.schedule e.machine e.picker d.items (ending_of e.stream) d.outcomes e.idle d.walked d.stands later (steps.may_come n (ending_of e.stream) later may)) d.put;
       };
       output = d.same_faults;
     }
 
     -- the machine was fed
-    pub fed : (m : machine.Seen) (s : stream.Seen) (input : Observation (List ℕ)) (close : Option Ending) → Feeds (node_at e.machine.tree 0).ins e.machine m e.stream s (change now.input input) e.close close →
-        AwaitsPick job (streams input now.output) (record e { machine = m; stream = s; close = close }) × (left_at (record e { machine = m; stream = s; close = close }) ≡ left_at e)
-    fed m s input close feeds =
-        let f : Feeds (width_of n) e.machine m e.stream s (change now.input input) e.close close = subst (λ k. Feeds k e.machine m e.stream s (change now.input input) e.close close) same_width feeds in (
-          record {
-            executes = record {
-              laws = d.laws;
-              firings_is = d.firings_is;
-              fits = d.fits;
-              few = d.few;
-              numbered = d.numbered;
-              few_earlier = d.few_earlier;
-              items = d.items ++ f.more;
-              outcomes = d.outcomes;
-              walked = d.walked;
-              gives = f.gives job.before.input d.items d.gives;
-              stands = steps.stands_fed n d.laws job.schedule e.machine m e.picker d.items e.close close d.outcomes e.idle d.walked d.stands f.kept f.more f.offers f.wide f.request;
-              trap_is = d.trap_is;
-              sum_is = d.sum_is;
-              put = d.put;
-              kept_is = d.kept_is;
-              same_faults = d.same_faults;
-            };
-            filled = f.filled;
-          },
-          ap (λ k. left_of (2 ^ 63) k e.picker) (fed_fired e.machine m f.more f.offers),
-        )
+    module _ (m : machine.Seen) (s : stream.Seen) (input : Observation (List ℕ)) (feeds : Feeds (node_at e.machine.tree 0).ins e.machine m e.stream s (change now.input input)) where
+      abbrev pub fed_so : Feeds (width_of n) e.machine m e.stream s (change now.input input)
+      fed_so = subst (λ k. Feeds k e.machine m e.stream s (change now.input input)) same_width feeds
+
+      unfoldable pub fed : AwaitsPick job (streams input now.output) (record e { machine = m; stream = s }) × (left_at (record e { machine = m; stream = s }) ≡ left_at e)
+      fed = (
+        record {
+          executes = record {
+            laws = d.laws;
+            firings_is = d.firings_is;
+            fits = d.fits;
+            few = d.few;
+            numbered = d.numbered;
+            few_earlier = d.few_earlier;
+            items = d.items ++ fed_so.more;
+            outcomes = d.outcomes;
+            walked = d.walked;
+            gives = fed_so.gives job.before.input d.items d.gives;
+            stands = steps.stands_fed n d.laws job.schedule e.machine m e.picker d.items (ending_of e.stream) (ending_of s) d.outcomes e.idle d.walked d.stands fed_so.kept fed_so.more fed_so.offers fed_so.wide fed_so.request;
+            trap_is = d.trap_is;
+            sum_is = d.sum_is;
+            put = d.put;
+            kept_is = d.kept_is;
+            same_faults = d.same_faults;
+          };
+          filled = fed_so.filled;
+        },
+        ap (λ k. left_of (2 ^ 63) k e.picker) (fed_fired e.machine m fed_so.more fed_so.offers),
+      )
 
     -- memory ran out for that
-    module _ (s : stream.Seen) (input : Observation (List ℕ)) (vain : FeedsInVain (node_at e.machine.tree 0).ins e.stream s (change now.input input) e.close) where
-      abbrev pub fed_in_vain : FeedsInVain (width_of n) e.stream s (change now.input input) e.close
-      fed_in_vain = subst (λ k. FeedsInVain k e.stream s (change now.input input) e.close) same_width vain
+    module _ (s : stream.Seen) (input : Observation (List ℕ)) (vain : FeedsInVain (node_at e.machine.tree 0).ins e.stream s (change now.input input)) where
+      abbrev pub fed_in_vain : FeedsInVain (width_of n) e.stream s (change now.input input)
+      fed_in_vain = subst (λ k. FeedsInVain k e.stream s (change now.input input)) same_width vain
 
-      pub unended_then : (x : Ending) → e.close ≡ Some x → ⊥
+      pub unended_then : (x : Ending) → ending_of e.stream ≡ Some x → ⊥
       unended_then x is = no_end (sym fed_in_vain.request ∙ is)
         where
           no_end : ◌≡◌ {A = Option Ending} None (Some x) → ⊥
           no_end h = cc
 
-      pub comes_then : (later : List (List ℤ)) → HaveInWords n.tree later → MayCome n e.close (fed_in_vain.more ++ later)
+      pub comes_then : (later : List (List ℤ)) → HaveInWords n.tree later → MayCome n (ending_of e.stream) (fed_in_vain.more ++ later)
       comes_then later in_words = record {
         wide = steps.wide_append (width_of n) fed_in_vain.more later fed_in_vain.wide in_words;
         none = λ x is. absurd (unended_then x is);
@@ -222,16 +222,16 @@ module _ (job : Job) where
         ends = record {
           stream = s;
           items = d.items ++ fed_in_vain.more;
-          closed = fed_in_vain.closed;
+          closed = s.closed;
           gives = fed_in_vain.gives job.before.input d.items d.gives;
           begun =
               steps.begun_by (meaning_of n (d.items ++ fed_in_vain.more)) d.outcomes (change job.before.output now.output)
-              (steps.begins_given n d.laws job.schedule e.machine e.picker d.items e.close d.outcomes e.idle d.walked d.stands fed_in_vain.more
+              (steps.begins_given n d.laws job.schedule e.machine e.picker d.items (ending_of e.stream) d.outcomes e.idle d.walked d.stands fed_in_vain.more
               (record { wide = fed_in_vain.wide; none = λ x is. absurd (unended_then x is) })) d.put;
           emits = λ later on.
               subst (λ i. HasBegun (change job.before.output now.output) (text_of (course_of n job.schedule i).state.emitted)) (sym (append_assoc d.items fed_in_vain.more later))
               (steps.begun_by (course_of n job.schedule (d.items ++ (fed_in_vain.more ++ later))).state.emitted d.outcomes (change job.before.output now.output)
-              (steps.begins_emitted n d.laws job.schedule e.machine e.picker d.items e.close d.outcomes e.idle d.walked d.stands (fed_in_vain.more ++ later) (comes_then later on.wide)) d.put);
+              (steps.begins_emitted n d.laws job.schedule e.machine e.picker d.items (ending_of e.stream) d.outcomes e.idle d.walked d.stands (fed_in_vain.more ++ later) (comes_then later on.wide)) d.put);
         };
         output = d.same_faults;
       }
@@ -240,12 +240,12 @@ module _ (job : Job) where
     abbrev d : Executes job now e
     d = a.executes
 
-    pub filled : (later : List (List ℤ)) → MayCome n e.close later → HasFilledInbox e.machine later
-    filled = steps.filled_after n e.close e.machine a.filled
+    pub filled : (later : List (List ℤ)) → MayCome n (ending_of e.stream) later → HasFilledInbox e.machine later
+    filled = steps.filled_after n (ending_of e.stream) e.machine a.filled
 
     -- the stream is ended if no process can fire and no trap was emitted
-    pub must_end : ready_list e.machine ≡ [] → IsNone e.emitted.trap → IsSome e.close
-    must_end none untrapped = by_trap e.emitted.trap e.close untrapped d.trap_is (steps.must_end n d.laws job.schedule e.machine e.picker d.items e.close d.outcomes e.idle d.walked d.stands filled none)
+    pub must_end : ready_list e.machine ≡ [] → IsNone e.emitted.trap → IsSome (ending_of e.stream)
+    must_end none untrapped = by_trap e.emitted.trap (ending_of e.stream) untrapped d.trap_is (steps.must_end n d.laws job.schedule e.machine e.picker d.items (ending_of e.stream) d.outcomes e.idle d.walked d.stands filled none)
       where
         by_trap : (t : Option Trap) (c : Option Ending) → IsNone t → t ≡ trap_of d.outcomes → (trap_of d.outcomes ≡ None → c ≢ None) → IsSome c
         by_trap None None untrapped is ends = absurd (ends (sym is) refl)
@@ -257,7 +257,7 @@ module _ (job : Job) where
     unfolding with_rest state_of
     one_waits_at_most =
         let c : Course = course_under n (d.items ++ []) (trace.picks_of d.walked) in
-        let at = d.stands.at [] (steps.nothing_comes n e.close) in
+        let at = d.stands.at [] (steps.nothing_comes n (ending_of e.stream)) in
         let sent : e.machine.sent ≡ c.state.sent = ap (λ x. x.sent) at.follows.state in
         let waits : option_to_list e.machine.inbox ++ [] ≡ c.state.unsent = ap (λ x. x.unsent) at.follows.state in
         let all = d.laws.counted (d.items ++ []) (wide_plain d.items d.stands.wide) (trace.picks_of d.walked) in
@@ -275,21 +275,21 @@ module _ (job : Job) where
       finish_is : IsFinish n.named e ran.finish
       finish_is = subst (λ t. IsFinish t e ran.finish) named_is finishes_so
 
-      pub none_left : (later : List (List ℤ)) → MayCome n e.close later → picks_from n.tree n.leaf n.net (left_of (most_firings n (d.items ++ later)) e.machine.fired e.picker) e.picker (course_under n (d.items ++ later) (trace.picks_of d.walked)) ≡ []
+      pub none_left : (later : List (List ℤ)) → MayCome n (ending_of e.stream) later → picks_from n.tree n.leaf n.net (left_of (most_firings n (d.items ++ later)) e.machine.fired e.picker) e.picker (course_under n (d.items ++ later) (trace.picks_of d.walked)) ≡ []
       none_left = by over
         where
-          by : IsOver e → (later : List (List ℤ)) → MayCome n e.close later → picks_from n.tree n.leaf n.net (left_of (most_firings n (d.items ++ later)) e.machine.fired e.picker) e.picker (course_under n (d.items ++ later) (trace.picks_of d.walked)) ≡ []
-          by (inl stuck) = steps.over_stuck n d.laws job.schedule e.machine e.picker d.items e.close d.outcomes e.idle d.walked d.stands filled stuck
-          by (inr ended) = steps.over_ended n d.laws job.schedule e.machine e.picker d.items e.close d.outcomes e.idle d.walked d.stands filled ended
+          by : IsOver e → (later : List (List ℤ)) → MayCome n (ending_of e.stream) later → picks_from n.tree n.leaf n.net (left_of (most_firings n (d.items ++ later)) e.machine.fired e.picker) e.picker (course_under n (d.items ++ later) (trace.picks_of d.walked)) ≡ []
+          by (inl stuck) = steps.over_stuck n d.laws job.schedule e.machine e.picker d.items (ending_of e.stream) d.outcomes e.idle d.walked d.stands filled stuck
+          by (inr ended) = steps.over_ended n d.laws job.schedule e.machine e.picker d.items (ending_of e.stream) d.outcomes e.idle d.walked d.stands filled ended
 
       -- the run on the items, and whatever may still come after them, goes on just where a process can fire
-      goes : (later : List (List ℤ)) → MayCome n e.close later → goes_on n (course_of n job.schedule (d.items ++ later)) ≡ is_some (ready_list e.machine)
-      goes = steps.goes_same n d.laws job.schedule e.machine e.picker d.items e.close d.outcomes e.idle d.walked d.stands filled none_left
+      goes : (later : List (List ℤ)) → MayCome n (ending_of e.stream) later → goes_on n (course_of n job.schedule (d.items ++ later)) ≡ is_some (ready_list e.machine)
+      goes = steps.goes_same n d.laws job.schedule e.machine e.picker d.items (ending_of e.stream) d.outcomes e.idle d.walked d.stands filled none_left
 
-      emitted : (later : List (List ℤ)) → MayCome n e.close later → (course_of n job.schedule (d.items ++ later)).state.emitted ≡ d.outcomes
-      emitted = steps.emitted_so n d.laws job.schedule e.machine e.picker d.items e.close d.outcomes e.idle d.walked d.stands filled none_left
+      emitted : (later : List (List ℤ)) → MayCome n (ending_of e.stream) later → (course_of n job.schedule (d.items ++ later)).state.emitted ≡ d.outcomes
+      emitted = steps.emitted_so n d.laws job.schedule e.machine e.picker d.items (ending_of e.stream) d.outcomes e.idle d.walked d.stands filled none_left
 
-      pub finishes : (later : List (List ℤ)) → MayCome n e.close later → (x : Ending) → MayEnd e.close x → ran.finish ≡ finish_of n (course_of n job.schedule (d.items ++ later)) x
+      pub finishes : (later : List (List ℤ)) → MayCome n (ending_of e.stream) later → (x : Ending) → MayEnd (ending_of e.stream) x → ran.finish ≡ finish_of n (course_of n job.schedule (d.items ++ later)) x
       finishes later may x ends = by (ready_list e.machine) refl
         where
           by : (ready : List ℕ) → ready_list e.machine ≡ ready → ran.finish ≡ finish_of n (course_of n job.schedule (d.items ++ later)) x
@@ -303,11 +303,11 @@ module _ (job : Job) where
               ∙ sym (cond-false _ _ _ (goes later may ∙ ap is_some is))
           by (p ∷ ps) is =
               finish_is.stopped (λ none. (let z : [] ≡ p ∷ ps = sym none ∙ is in cc))
-              ∙ ap (λ k. finish.Stopped k e.idle) (sym (steps.fired_so n d.laws job.schedule e.machine e.picker d.items e.close d.outcomes e.idle d.walked d.stands filled none_left later may))
-              ∙ ap (λ k. finish.Stopped (course_of n job.schedule (d.items ++ later)).fired k) (sym (steps.idle_so n d.laws job.schedule e.machine e.picker d.items e.close d.outcomes e.idle d.walked d.stands filled none_left later may))
+              ∙ ap (λ k. finish.Stopped k e.idle) (sym (steps.fired_so n d.laws job.schedule e.machine e.picker d.items (ending_of e.stream) d.outcomes e.idle d.walked d.stands filled none_left later may))
+              ∙ ap (λ k. finish.Stopped (course_of n job.schedule (d.items ++ later)).fired k) (sym (steps.idle_so n d.laws job.schedule e.machine e.picker d.items (ending_of e.stream) d.outcomes e.idle d.walked d.stands filled none_left later may))
               ∙ sym (cond-true _ _ _ (goes later may ∙ ap is_some is))
 
-      pub closed_so_is : (x : Ending) → ran.finish ≡ finish.Stream x → e.close ≡ Some x
+      pub closed_so_is : (x : Ending) → ran.finish ≡ finish.Stream x → ending_of e.stream ≡ Some x
       closed_so_is x is = by (ready_list e.machine) refl
         where
           by_close : (t : Option Trap) (c : Option Ending) → (IsNone t → IsSome c) → ((y : Ending) → MayEnd c y → ran.finish ≡ end_of n.named t (e.earlier + e.machine.emitted) y) → c ≡ Some x
@@ -316,8 +316,8 @@ module _ (job : Job) where
           by_close (Some t) None must ends = absurd (let z = sym (ends x tt) ∙ is in cc)
           by_close (Some t) (Some y) must ends = absurd (let z = sym (ends y refl) ∙ is in cc)
 
-          by : (ready : List ℕ) → ready_list e.machine ≡ ready → e.close ≡ Some x
-          by [] none = by_close e.emitted.trap e.close (must_end none) (finish_is.stuck none)
+          by : (ready : List ℕ) → ready_list e.machine ≡ ready → ending_of e.stream ≡ Some x
+          by [] none = by_close e.emitted.trap (ending_of e.stream) (must_end none) (finish_is.stuck none)
           by (p ∷ ps) some = absurd (let z = sym (finish_is.stopped (λ none. (let y : [] ≡ p ∷ ps = sym none ∙ some in cc))) ∙ is in cc)
 
       pub numbers : ran.stats ≡ record { items = e.machine.sent; fired = e.machine.fired; idle = e.idle; bound = e.machine.sent * n.firings }
@@ -328,16 +328,16 @@ module _ (job : Job) where
         ends = record {
           stream = e.stream;
           items = d.items;
-          close = e.close;
+          close = ending_of e.stream;
           gives = d.gives;
           requested = subst (λ (k : RunStats). (begun_with n d.items).sent + length d.items ≤ k.items + 1) (sym stats_are) one_waits_at_most;
           outcomes = d.outcomes;
           put = d.put;
-          ran = steps.ran n d.laws job.schedule e.machine e.picker d.items e.close d.outcomes e.idle d.walked d.stands filled none_left ran.stats numbers;
+          ran = steps.ran n d.laws job.schedule e.machine e.picker d.items (ending_of e.stream) d.outcomes e.idle d.walked d.stands filled none_left ran.stats numbers;
           ends = finishes;
           closed = closed_so_is;
           lines = d.walked;
-          traced = steps.traced n d.laws job.schedule e.machine e.picker d.items e.close d.outcomes e.idle d.walked d.stands filled none_left ran.stats numbers;
+          traced = steps.traced n d.laws job.schedule e.machine e.picker d.items (ending_of e.stream) d.outcomes e.idle d.walked d.stands filled none_left ran.stats numbers;
           kept = lines_are ∙ d.kept_is;
           summed = sum_is ∙ d.sum_is;
         };
@@ -353,7 +353,7 @@ module _ (job : Job) where
       way = after_pick (length e.machine.net.procs) e.picker p
 
       from : IsPickedFrom (can_step e.machine) (size_of n) e.picker p
-      from = steps.picked_so n d.laws job.schedule e.machine e.picker d.items e.close d.outcomes e.idle d.walked d.stands filled p None picked.pick picked.some
+      from = steps.picked_so n d.laws job.schedule e.machine e.picker d.items (ending_of e.stream) d.outcomes e.idle d.walked d.stands filled p None picked.pick picked.some
 
       way_is : way ≡ after_pick (size_of n) e.picker p
       way_is = ap (λ k. after_pick (length k.procs) e.picker p) d.stands.runs.net
@@ -373,8 +373,8 @@ module _ (job : Job) where
           walked = d.walked ++ record { pick = p; kind = None } ∷ [];
           gives = d.gives;
           stands =
-              subst (λ k. Stands n job.schedule e.machine k d.items e.close d.outcomes (e.idle + 1) (d.walked ++ record { pick = p; kind = None } ∷ [])) (sym way_is)
-              (steps.stands_idle n d.laws job.schedule e.machine e.picker d.items e.close d.outcomes e.idle d.walked d.stands filled p None picked.pick picked.some cannot picked.there refl);
+              subst (λ k. Stands n job.schedule e.machine k d.items (ending_of e.stream) d.outcomes (e.idle + 1) (d.walked ++ record { pick = p; kind = None } ∷ [])) (sym way_is)
+              (steps.stands_idle n d.laws job.schedule e.machine e.picker d.items (ending_of e.stream) d.outcomes e.idle d.walked d.stands filled p None picked.pick picked.some cannot picked.there refl);
           trap_is = d.trap_is;
           sum_is = d.sum_is;
           put = d.put;
@@ -395,8 +395,8 @@ module _ (job : Job) where
         kind_is : kind_at e.machine.net p ≡ Some fired.kind
         kind_is = subst (λ m. kind_at m.net p ≡ Some fired.kind) same_machine fired.kind_is
 
-        led : Stands n job.schedule e''.machine (after_pick (size_of n) e.picker p) d.items e.close (d.outcomes ++ option_to_list handed) e.idle (d.walked ++ record { pick = p; kind = Some fired.kind } ∷ [])
-        led = steps.stands_fired n d.laws job.schedule e.machine e.picker d.items e.close d.outcomes e.idle d.walked d.stands filled p (Some fired.kind) picked.pick picked.some e''.machine handed can fires picked.there fired.kind kind_is refl
+        led : Stands n job.schedule e''.machine (after_pick (size_of n) e.picker p) d.items (ending_of e.stream) (d.outcomes ++ option_to_list handed) e.idle (d.walked ++ record { pick = p; kind = Some fired.kind } ∷ [])
+        led = steps.stands_fired n d.laws job.schedule e.machine e.picker d.items (ending_of e.stream) d.outcomes e.idle d.walked d.stands filled p (Some fired.kind) picked.pick picked.some e''.machine handed can fires picked.there fired.kind kind_is refl
 
         -- memory ran out, or writing failed, for the line of the outcome that it handed out
         pub ends_unwritten : (output : Observation (List ℕ)) (failed : RunFault) → HasBegun (change now.output output) (text_of (option_to_list handed)) → WriteCause {T = Emitted} (change now.output output) (Err failed) →
@@ -405,14 +405,14 @@ module _ (job : Job) where
           ends = record {
             stream = e.stream;
             items = d.items;
-            closed = closed_so e.close;
+            closed = closed_so (ending_of e.stream);
             gives = d.gives;
             begun =
                 steps.begun_last (meaning_of n d.items) d.outcomes handed job.before.output now.output output
-                (steps.led_begins n d.laws job.schedule e.machine e.picker d.items e.close d.outcomes e.idle d.walked d.stands filled p None picked.pick picked.some e''.machine handed can fires) d.put begun;
+                (steps.led_begins n d.laws job.schedule e.machine e.picker d.items (ending_of e.stream) d.outcomes e.idle d.walked d.stands filled p None picked.pick picked.some e''.machine handed can fires) d.put begun;
             emits = λ later on.
                 steps.begun_last (course_of n job.schedule (d.items ++ later)).state.emitted d.outcomes handed job.before.output now.output output
-                (steps.begins_emitted n d.laws job.schedule e''.machine (after_pick (size_of n) e.picker p) d.items e.close (d.outcomes ++ option_to_list handed) e.idle (d.walked ++ record { pick = p; kind = Some fired.kind } ∷ []) led later (steps.may_come n e.close later on))
+                (steps.begins_emitted n d.laws job.schedule e''.machine (after_pick (size_of n) e.picker p) d.items (ending_of e.stream) (d.outcomes ++ option_to_list handed) e.idle (d.walked ++ record { pick = p; kind = Some fired.kind } ∷ []) led later (steps.may_come n (ending_of e.stream) later on))
                 d.put begun;
           };
           output = cause_on Ran Emitted job.before.output now.output output failed d.same_faults cause;
@@ -434,7 +434,7 @@ module _ (job : Job) where
             walked = d.walked ++ record { pick = p; kind = Some fired.kind } ∷ [];
             gives = d.gives;
             stands =
-                subst (λ k. Stands n job.schedule e''.machine k d.items e.close (d.outcomes ++ option_to_list handed) e.idle (d.walked ++ record { pick = p; kind = Some fired.kind } ∷ [])) (sym way_is) led;
+                subst (λ k. Stands n job.schedule e''.machine k d.items (ending_of e.stream) (d.outcomes ++ option_to_list handed) e.idle (d.walked ++ record { pick = p; kind = Some fired.kind } ∷ [])) (sym way_is) led;
             trap_is = trap_is ∙ ap (λ t. fold trap_after t.trap (option_to_list handed)) same_emitted ∙ steps.trap_more e.emitted.trap d.outcomes (option_to_list handed) d.trap_is;
             sum_is = sum_is ∙ ap (λ t. fold sum_after t.sum (option_to_list handed)) same_emitted ∙ steps.sum_more e.emitted.sum d.outcomes (option_to_list handed) d.sum_is;
             put =
@@ -456,3 +456,9 @@ module _ (job : Job) where
             fewer =
                 let low = (in_range now e d).fired in
                 subst (λ k. left_of (2 ^ 63) e''.machine.fired k < left_at e) (sym way_is) (steps.fewer_fired (2 ^ 63) e.machine.fired e''.machine.fired (can_step e.machine) (size_of n) e.picker p from fires.fired (omega arith))
+
+-- whatever job it executes, an execution is fed as its machine is
+pub feeds_on : (e : Execution) (m : machine.Seen) (s : stream.Seen) (old new : Observation (List ℕ)) (result : Result (Unit {0}) NoMemory) → IsFed (node_at e.machine.tree 0).ins e.machine m e.stream s (change old new) result →
+    FeedsOn (change old new) e (record e { machine = m; stream = s }) result
+feeds_on e m s old new (Ok done) feeds = λ job output d. fed job (streams old output) e d m s new feeds
+feeds_on e m s old new (Err want) vain = λ job output d. ends_unfed job (streams old output) e d s new vain

@@ -8,11 +8,11 @@ use Rattle.p3l_stream.specs.declared.items.Ending.{Ending}
 use Rattle.p3l_stream.specs.declared.items.Ending.TheVariants as ending
 use Rattle.p3l_stream.specs.Answers.{Answers, IsAtEnd, NextCause}
 use Rattle.p3l_stream.specs.Given.{GivenCause, HasGiven, items_in}
-use Rattle.p3l_stream.specs.Seen.{Answer, Seen, closed_by, item_count, most_items, most_of, started}
+use Rattle.p3l_stream.specs.Seen.{Answer, Seen, closed_by, ending_in, item_count, most_items, most_of, started}
 use Rattle.p3l_stream.specs.Taken.{IsTaken, IsTakenOf}
 use Rattle.p3l_stream.proofs.Reading.{IsTaken-none, IsTaken-twice}
 use Rattle.p3l_net.specs.Machine as machine
-use Rattle.p3l_run.specs.Feed.{Feeds, FeedsInVain, Gives, GivesMore, Offers, closed_so, input_limit, most_of_input}
+use Rattle.p3l_run.specs.Feed.{Feeds, FeedsInVain, Gives, GivesMore, IsOpenOrEnded, Offers, closed_so, ending_of, input_limit, most_of_input}
 
 -- nothing was requested yet
 pub gives_first : (width : ℕ) (input : Observation (List ℕ)) (s : Seen) → HasGiven width (started width input_limit) [] [] → s ≡ started width input_limit → Gives width (change input input) s [] None
@@ -79,10 +79,10 @@ no_end : (e : Ending) → ◌≡◌ {A = Option Ending} None (Some e) → ⊥
 no_end e h = cc
 
 -- nothing is requested
-pub same_feeds : (width : ℕ) (m : machine.Seen) (s : Seen) (input : Observation (List ℕ)) (close : Option Ending) → (close ≡ None → m.inbox ≢ None) → Feeds width m m s s (change input input) close close
-same_feeds width m s input close filled = record {
+pub same_feeds : (width : ℕ) (m : machine.Seen) (s : Seen) (input : Observation (List ℕ)) → (ending_of s ≡ None → m.inbox ≢ None) → Feeds width m m s s (change input input)
+same_feeds width m s input filled = record {
   more = [];
-  gives = λ first items g. subst (λ i. Gives width (change first input) s i (closed_so close)) (sym (append-nil items)) g;
+  gives = λ first items g. subst (λ i. Gives width (change first input) s i (closed_so (ending_of s))) (sym (append-nil items)) g;
   offers = refl;
   wide = tt;
   filled = filled;
@@ -92,50 +92,66 @@ same_feeds width m s input close filled = record {
 }
 
 -- a call of the stream, by its answer
-module _ (width : ℕ) (s s' : Seen) (input : Change (List ℕ)) (close : Option Ending) (not_ended : close ≡ None) (result : Result Answer NoMemory)
+module _ (width : ℕ) (s s' : Seen) (input : Change (List ℕ)) (result : Result Answer NoMemory)
     (law : (bytes : List ℕ) (items : List (List ℤ)) → HasGiven width s bytes items → (answers : Answers s s' input result) → HasGiven width s' (bytes ++ answers.got) (items ++ items_in result))
     (answers : Answers s s' input result) (cause : NextCause result input) (closed : s'.closed ≡ closed_by result) (few : IfOk result (λ a. item_count a + most_items s' ≤ most_items s)) where
-  gives_answer : GivesMore width input s s' close (items_in result) (closed_by result)
-  gives_answer first items g =
-      gives_more width first input s s' items result (λ bytes given a. law bytes items given a) answers cause closed few (subst (λ k. Gives width (change first input.old) s items (closed_so k)) not_ended g)
+  pub gives_so : (other : Result Answer NoMemory) → result ≡ other → (first : Observation (List ℕ)) (items : List (List ℤ)) → Gives width (change first input.old) s items None →
+      Gives width (change first input.new) s' (items ++ items_in other) (closed_by other)
+  gives_so other is first items g =
+      subst (λ r. Gives width (change first input.new) s' (items ++ items_in r) (closed_by r)) is (gives_more width first input s s' items result (λ bytes given a. law bytes items given a) answers cause closed few g)
 
-  pub gives_so : (other : Result Answer NoMemory) → result ≡ other → GivesMore width input s s' close (items_in other) (closed_by other)
-  gives_so other is = subst (λ r. GivesMore width input s s' close (items_in r) (closed_by r)) is gives_answer
+  module _ (is_open : s.closed ≡ None) where
+    not_ended : ending_of s ≡ None
+    not_ended = ap ending_in is_open
 
-  pub in_vain : (other : Result Answer NoMemory) → result ≡ other → AllByRecursion (λ (words : List ℤ). length words ≡ width) (items_in other) → FeedsInVain width s s' input close
-  in_vain other is wide = record { more = items_in other; closed = closed_by other; gives = gives_so other is; wide = wide; request = not_ended }
+    gives_then : (other : Result Answer NoMemory) → result ≡ other → (after : Option (Result Ending NoMemory)) → after ≡ closed_by other → GivesMore width input s s' (items_in other) after
+    gives_then other is after then first items g =
+        subst (Gives width (change first input.new) s' (items ++ items_in other)) (sym then) (gives_so other is first items (subst (λ k. Gives width (change first input.old) s items (closed_so k)) not_ended g))
 
-  pub item_feeds : (m m' : machine.Seen) (item : List ℤ) → result ≡ Ok (Ok item) → length item ≡ width → m.inbox ≡ None → m' ≡ record m { inbox = Some item } → Feeds width m m' s s' input close None
-  item_feeds m m' item is wide empty offered = record {
-    more = item ∷ [];
-    gives = gives_so (Ok (Ok item)) is;
-    offers = (empty, offered, refl);
-    wide = (wide, tt);
-    filled = λ e none. (let z : Some item ≡ None = sym (ap (λ (k : machine.Seen). k.inbox) offered) ∙ none in cc);
-    request = λ some. not_ended;
-    kept = λ e is. absurd (no_end e (sym not_ended ∙ is));
-    empty = λ e none is. absurd (no_end e is);
-  }
+    pub in_vain : (other : Result Answer NoMemory) → result ≡ other → AllByRecursion (λ (words : List ℤ). length words ≡ width) (items_in other) → FeedsInVain width s s' input
+    in_vain other is wide = record { more = items_in other; gives = gives_then other is s'.closed (closed ∙ ap closed_by is); wide = wide; request = not_ended }
 
-  pub end_feeds : (m : machine.Seen) (e : Ending) → result ≡ Ok (Err e) → m.inbox ≡ None → Feeds width m m s s' input close (Some e)
-  end_feeds m e is empty = record {
-    more = [];
-    gives = gives_so (Ok (Err e)) is;
-    offers = refl;
-    wide = tt;
-    filled = λ none. cc;
-    request = λ some. absurd (some refl);
-    kept = λ other is. absurd (no_end other (sym not_ended ∙ is));
-    empty = λ other none is. empty;
-  }
+    pub item_feeds : (m m' : machine.Seen) (item : List ℤ) → result ≡ Ok (Ok item) → length item ≡ width → m.inbox ≡ None → m' ≡ record m { inbox = Some item } → Feeds width m m' s s' input
+    item_feeds m m' item is wide empty offered = record {
+      more = item ∷ [];
+      gives = gives_then (Ok (Ok item)) is _ (ap closed_so still);
+      offers = (empty, offered, refl);
+      wide = (wide, tt);
+      filled = λ e none. (let z : Some item ≡ None = sym (ap (λ (k : machine.Seen). k.inbox) offered) ∙ none in cc);
+      request = λ some. not_ended;
+      kept = λ e is. absurd (no_end e (sym not_ended ∙ is));
+      empty = λ e none ends. absurd (no_end e (sym still ∙ ends));
+    }
+      where
+        still : ending_of s' ≡ None
+        still = ap ending_in (closed ∙ ap closed_by is)
 
--- the test of an ending tells if there is one
-pub not_some : (close : Option Ending) (b : Bool) → b ≡ is_some close → b ≡ true → close ≡ None → ⊥
-not_some close b is true_is none = (let z : true ≡ false = sym true_is ∙ is ∙ ap is_some none in cc)
+    pub end_feeds : (m : machine.Seen) (e : Ending) → result ≡ Ok (Err e) → m.inbox ≡ None → Feeds width m m s s' input
+    end_feeds m e is empty = record {
+      more = [];
+      gives = gives_then (Ok (Err e)) is _ (ap closed_so ends);
+      offers = refl;
+      wide = tt;
+      filled = λ none. absurd (no_end e (sym none ∙ ends));
+      request = λ some. absurd (some refl);
+      kept = λ other is. absurd (no_end other (sym not_ended ∙ is));
+      empty = λ other none is. empty;
+    }
+      where
+        ends : ending_of s' ≡ Some e
+        ends = ap ending_in (closed ∙ ap closed_by is)
 
-pub is_none : (close : Option Ending) (b : Bool) → b ≡ is_some close → b ≡ false → close ≡ None
-is_none None b is false_is = refl
-is_none (Some e) b is false_is = (let z : true ≡ false = sym is ∙ false_is in cc)
+-- memory did not run out for a stream that gave items, and ended so, if it did
+pub open_or_ended : {width : ℕ} {input : Change (List ℕ)} {s : Seen} {items : List (List ℤ)} → Gives width input s items (closed_so (ending_of s)) → IsOpenOrEnded s
+open_or_ended g none = g.closed_is ∙ ap closed_so none
+
+-- the test of an option tells if it has a value
+pub not_none : (T : Type 0) (o : Option T) (b : Bool) → b ≡ is_some o → b ≡ true → o ≢ None
+not_none T o b is true_is none = (let z : true ≡ false = sym true_is ∙ is ∙ ap is_some none in cc)
+
+pub is_none : (T : Type 0) (o : Option T) (b : Bool) → b ≡ is_some o → b ≡ false → o ≡ None
+is_none T None b is false_is = refl
+is_none T (Some x) b is false_is = (let z : true ≡ false = sym is ∙ false_is in cc)
 
 -- a machine that is fed doesn't fire
 pub fed_fired : (m m' : machine.Seen) (more : List (List ℤ)) → Offers m m' more → m'.fired ≡ m.fired

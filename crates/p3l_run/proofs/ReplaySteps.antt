@@ -1,13 +1,14 @@
 -- A run under recorded picks that is to come to a checkpoint: its first state, what is fed, each pick, and its end.
-use Rattle.std.proofs.Common.{◌≡◌, ◌≢◌, ℕ, ℤ, zero, suc, ◌+◌, ◌-◌, ◌<◌, ◌≤◌, ◌^◌, Bool, true, false, List, [], ◌∷◌, ◌++◌, ◌⊎◌, length, map, fold, take, drop, get_or, Option, Some, None, Ok, Err, IsTrue, inl, inr, refl, sym, ap, subst, ◌∙◌, arith, append_assoc, append-nil, length-append}
+use Rattle.std.proofs.Common.{◌≡◌, ◌≢◌, ℕ, ℤ, zero, suc, ◌+◌, ◌-◌, ◌<◌, ◌≤◌, ◌^◌, true, false, List, [], ◌∷◌, ◌++◌, ◌⊎◌, length, map, fold, take, drop, get_or, Option, Some, None, Result, Ok, Err, IsTrue, inl, inr, refl, sym, ap, subst, ◌∙◌, arith, append_assoc, append-nil, length-append}
 use Rattle.std.specs.List.{All, AllByRecursion}
-use Rattle.std.specs.Option.{is_some, option_to_list}
+use Rattle.std.specs.Option.{option_to_list}
 use Rattle.std.proofs.Math.Seq.{drop-cons, take-append_seam, take-suc}
 use Rattle.std.proofs.Math.ListN.{get_or-map}
 use Rattle.std.proofs.lemmas.Bool.{cases_lt}
 use Rattle.std.proofs.lemmas.List.{drop_all, get_or_past, length-map}
 use Rattle.std.proofs.lemmas.List.Elements.{All-get_or}
 use Rattle.std.proofs.lemmas.List.Sums.{fold-append}
+use Rattle.p3l_base.specs.declared.NoMemory.{NoMemory}
 use Rattle.p3l_base.specs.declared.outcome.Outcome.{Outcome}
 use Rattle.p3l_base.specs.declared.outcome.Outcome.TheVariants.{Value, Trapped}
 use Rattle.p3l_base.specs.declared.outcome.Trap.{Trap}
@@ -49,12 +50,12 @@ use Rattle.p3l_run.specs.declared.keeping.Keeping.{Keeping}
 use Rattle.p3l_run.specs.declared.write.Emitted.{Emitted}
 use Rattle.p3l_run.specs.Checkpoint.{Reaches}
 use Rattle.p3l_run.specs.Execution.{HasFired, after_idle, started}
-use Rattle.p3l_run.specs.Feed.{Feeds, FeedsInVain, Gives, Offers, closed_so, input_limit}
+use Rattle.p3l_run.specs.Feed.{Feeds, FeedsInVain, Gives, IsFed, Offers, closed_so, ending_of, input_limit}
 use Rattle.p3l_run.specs.Laws.{Laws, Runs}
 use Rattle.p3l_run.specs.Network.{Network, begun_with, course_under, network, width_of}
 use Rattle.p3l_run.specs.Requested as requested
 use Rattle.p3l_run.specs.Requested.{IsRequestedBy, requested_for, sent_before_last}
-use Rattle.p3l_run.specs.Replay.{AreAsked, Comes, Halts, IsFilled, IsReady, Opens, Replay, Replays, Saves, cut_of, replay_of}
+use Rattle.p3l_run.specs.Replay.{AreAsked, Comes, FillsOn, Halts, IsFilled, IsReady, Opens, Replay, Replays, Saves, cut_of, replay_of}
 use Rattle.p3l_run.specs.Run.{MayEnd, end_of}
 use Rattle.p3l_run.specs.Start.{Start, item_number, outcomes_from, state_from}
 use Rattle.p3l_run.specs.Streams.{Streams, streams}
@@ -125,14 +126,6 @@ some_trap outcomes t some = by (some_after None t outcomes some)
 
 no_end : (e : Ending) → ◌≡◌ {A = Option Ending} None (Some e) → ⊥
 no_end e h = cc
-
--- the test of an option tells if it has a value
-pub not_none : (T : Type 0) (o : Option T) (b : Bool) → b ≡ is_some o → b ≡ true → o ≢ None
-not_none T o b is true_is none = (let z : true ≡ false = sym true_is ∙ is ∙ ap is_some none in cc)
-
-pub is_none : (T : Type 0) (o : Option T) (b : Bool) → b ≡ is_some o → b ≡ false → o ≡ None
-is_none T None b is false_is = refl
-is_none T (Some x) b is false_is = (let z : true ≡ false = sym is ∙ false_is in cc)
 
 -- some way in which a stream may end
 abbrev some_end : Option Ending → Ending
@@ -212,9 +205,6 @@ module _ (r : Replay) where
     pub wide : e.stream.words ≡ (node_at e.machine.tree 0).ins
     wide = d.gives.given.width_is ∙ sym same_width
 
-    pub unended : e.close ≡ None → e.stream.closed ≡ None
-    unended none = d.gives.closed_is ∙ ap closed_so none
-
     pub few_picks : e.machine.fired + e.idle < 2 ^ 63
     few_picks =
         let all : length used + length unused ≡ length r.picks = sym (length-append used unused) ∙ ap length d.whole in
@@ -236,7 +226,7 @@ module _ (r : Replay) where
       ends = record {
         stream = e.stream;
         items = d.items;
-        closed = closed_so e.close;
+        closed = closed_so (ending_of e.stream);
         gives = d.gives;
         used = used;
         unused = unused;
@@ -247,9 +237,9 @@ module _ (r : Replay) where
     }
 
     -- the machine was fed
-    module _ (m : machine.Seen) (s : stream.Seen) (input : Observation (List ℕ)) (close : Option Ending) where
+    module _ (m : machine.Seen) (s : stream.Seen) (input : Observation (List ℕ)) where
       abbrev new : Execution
-      new = record e { machine = m; stream = s; close = close }
+      new = record e { machine = m; stream = s }
 
       follows_fed : (more : List (List ℤ)) → HaveInWords n.tree more → Offers e.machine m more → (later : List (List ℤ)) → HaveInWords n.tree later → Follows m d.outcomes later (course_under n ((d.items ++ more) ++ later) used)
       follows_fed [] all same later in_words =
@@ -265,9 +255,9 @@ module _ (r : Replay) where
       runs_fed [] same = (record { tree = ap (λ k. k.tree) same ∙ d.runs.tree; net = ap (λ k. k.net) same ∙ d.runs.net }, ap (λ k. k.fired) same)
       runs_fed (item ∷ more) offers = (record { tree = ap (λ k. k.tree) offers.1 ∙ d.runs.tree; net = ap (λ k. k.net) offers.1 ∙ d.runs.net }, ap (λ k. k.fired) offers.1)
 
-      pub fed : Feeds (node_at e.machine.tree 0).ins e.machine m e.stream s (change now.input input) e.close close → Replays r used unused (streams input now.output) new × IsFilled e new
+      pub fed : Feeds (node_at e.machine.tree 0).ins e.machine m e.stream s (change now.input input) → Replays r used unused (streams input now.output) new × IsFilled e new
       fed feeds =
-          let f : Feeds (width_of n) e.machine m e.stream s (change now.input input) e.close close = subst (λ k. Feeds k e.machine m e.stream s (change now.input input) e.close close) same_width feeds in (
+          let f : Feeds (width_of n) e.machine m e.stream s (change now.input input) = subst (λ k. Feeds k e.machine m e.stream s (change now.input input)) same_width feeds in (
             record {
               laws = d.laws;
               begins = d.begins;
@@ -295,14 +285,14 @@ module _ (r : Replay) where
           )
 
     -- memory ran out for that
-    pub comes_unfed : (s : stream.Seen) (input : Observation (List ℕ)) → FeedsInVain (node_at e.machine.tree 0).ins e.stream s (change now.input input) e.close → Comes r (streams input now.output) (Err fault.NoMemory)
+    pub comes_unfed : (s : stream.Seen) (input : Observation (List ℕ)) → FeedsInVain (node_at e.machine.tree 0).ins e.stream s (change now.input input) → Comes r (streams input now.output) (Err fault.NoMemory)
     comes_unfed s input vain =
-        let f : FeedsInVain (width_of n) e.stream s (change now.input input) e.close = subst (λ k. FeedsInVain k e.stream s (change now.input input) e.close) same_width vain in
+        let f : FeedsInVain (width_of n) e.stream s (change now.input input) = subst (λ k. FeedsInVain k e.stream s (change now.input input)) same_width vain in
         record {
           ends = record {
             stream = s;
             items = d.items ++ f.more;
-            closed = f.closed;
+            closed = s.closed;
             gives = f.gives r.before.input d.items d.gives;
             used = used;
             unused = unused;
@@ -394,8 +384,8 @@ module _ (r : Replay) where
         (waits_given used (p ∷ unused) now e d ready.filled ∙ ap (λ (o : Option Ending). e.machine.sent + requested.one_waits o) (sym open_is)) later in_words
 
     -- whose process can't fire
-    pub passed : can_step e.machine p ≡ false → (new : Execution) → new ≡ after_idle p e → (k : Replays r (used ++ p ∷ []) unused now new) × (new.close ≡ None) × AreAsked k
-    passed cannot new is = subst (λ (x : Execution). (k : Replays r (used ++ p ∷ []) unused now x) × (x.close ≡ None) × AreAsked k) (sym is) (
+    pub passed : can_step e.machine p ≡ false → (new : Execution) → new ≡ after_idle p e → (k : Replays r (used ++ p ∷ []) unused now new) × (ending_of new.stream ≡ None) × AreAsked k
+    passed cannot new is = subst (λ (x : Execution). (k : Replays r (used ++ p ∷ []) unused now x) × (ending_of x.stream ≡ None) × AreAsked k) (sym is) (
       record {
         laws = d.laws;
         begins = d.begins;
@@ -418,7 +408,7 @@ module _ (r : Replay) where
         same_faults = d.same_faults;
       },
       ready.open_is,
-      asked_then e.close ready.open_is,
+      asked_then (ending_of e.stream) ready.open_is,
     )
 
     -- whose process fired
@@ -442,7 +432,7 @@ module _ (r : Replay) where
         ends = record {
           stream = e.stream;
           items = d.items;
-          closed = closed_so e.close;
+          closed = closed_so (ending_of e.stream);
           gives = d.gives;
           used = used ++ p ∷ [];
           unused = unused;
@@ -456,7 +446,7 @@ module _ (r : Replay) where
 
       -- its line was written
       pub went_on : (emitted : Emitted) (output : Observation (List ℕ)) → emitted.trap ≡ fold trap_after new.emitted.trap (option_to_list handed) → HasPut (change now.output output) (text_of (option_to_list handed)) → HasSameFaults (change now.output output) →
-          (k : Replays r (used ++ p ∷ []) unused (streams now.input output) (record new { emitted = emitted })) × ((record new { emitted = emitted }).close ≡ None) × AreAsked k
+          (k : Replays r (used ++ p ∷ []) unused (streams now.input output) (record new { emitted = emitted })) × (ending_of new.stream ≡ None) × AreAsked k
       went_on emitted output trap_is put same_faults = (
         record {
           laws = d.laws;
@@ -466,7 +456,7 @@ module _ (r : Replay) where
           named = d.named.1;
           items = d.items;
           outcomes = d.outcomes ++ option_to_list handed;
-          gives = subst (λ (k : Execution). Gives (width_of n) (change r.before.input now.input) k.stream d.items (closed_so k.close)) (sym fired.rest) d.gives;
+          gives = subst (λ (k : Execution). Gives (width_of n) (change r.before.input now.input) k.stream d.items (closed_so (ending_of k.stream))) (sym fired.rest) d.gives;
           runs = record { tree = fires.tree ∙ d.runs.tree; net = fires.net ∙ d.runs.net };
           wide = d.wide;
           follows = led;
@@ -477,8 +467,8 @@ module _ (r : Replay) where
           put = subst (HasPut (change r.before.output output)) (sym (text_more d.outcomes (option_to_list handed))) (put_more r.before.output now.output output (text_of d.outcomes) (text_of (option_to_list handed)) d.put put);
           same_faults = same_faults ∙ d.same_faults;
         },
-        ap (λ (k : Execution). k.close) fired.rest ∙ ready.open_is,
-        asked_then new.close (ap (λ (k : Execution). k.close) fired.rest ∙ ready.open_is),
+        ap (λ (k : Execution). ending_of k.stream) fired.rest ∙ ready.open_is,
+        asked_then (ending_of new.stream) (ap (λ (k : Execution). ending_of k.stream) fired.rest ∙ ready.open_is),
       )
         where
           same_emitted : new.emitted ≡ e.emitted
@@ -487,15 +477,21 @@ module _ (r : Replay) where
           same_idle : new.idle ≡ e.idle
           same_idle = ap (λ (k : Execution). k.idle) fired.rest
 
+-- whatever run it is, an execution is filled as its machine is fed
+pub fills_on : (e : Execution) (m : machine.Seen) (s : stream.Seen) (old new : Observation (List ℕ)) (result : Result (Unit {0}) NoMemory) → IsFed (node_at e.machine.tree 0).ins e.machine m e.stream s (change old new) result →
+    FillsOn (change old new) e (record e { machine = m; stream = s }) result
+fills_on e m s old new (Ok done) feeds = λ r used unused output d. fed r used unused (streams old output) e d m s new feeds
+fills_on e m s old new (Err want) vain = λ r used unused output d. comes_unfed r used unused (streams old output) e d s new vain
+
 -- a run goes no further
 module _ (r : Replay) (used unused : List ℕ) (now : Streams) (e : Execution) (d : Replays r used unused now e) where
   -- while the stream isn't ended, items are requested before the picks that are made
-  made_alone : e.close ≡ None → AreAsked d → (later : List (List ℤ)) → HaveInWords r.network.tree later → IsRequestedBy r.network (d.items ++ later) (requested_for e.close used unused) (length d.items) e.close
+  made_alone : ending_of e.stream ≡ None → AreAsked d → (later : List (List ℤ)) → HaveInWords r.network.tree later → IsRequestedBy r.network (d.items ++ later) (requested_for (ending_of e.stream) used unused) (length d.items) (ending_of e.stream)
   made_alone open_is asked later in_words =
-      subst (λ ps. IsRequestedBy r.network (d.items ++ later) ps (length d.items) e.close) (sym (ap (λ (o : Option Ending). requested_for o used unused) open_is)) (asked later in_words)
+      subst (λ ps. IsRequestedBy r.network (d.items ++ later) ps (length d.items) (ending_of e.stream)) (sym (ap (λ (o : Option Ending). requested_for o used unused) open_is)) (asked later in_words)
 
   -- since a trap was emitted
-  pub halts_trapped : e.emitted.trap ≢ None → e.close ≡ None → AreAsked d → Halts r now e
+  pub halts_trapped : e.emitted.trap ≢ None → ending_of e.stream ≡ None → AreAsked d → Halts r now e
   halts_trapped some open_is asked = record {
     used = used;
     unused = unused;
@@ -506,7 +502,7 @@ module _ (r : Replay) (used unused : List ℕ) (now : Streams) (e : Execution) (
   }
 
   -- since no pick is left
-  pub halts_over : unused ≡ [] → e.close ≡ None → AreAsked d → Halts r now e
+  pub halts_over : unused ≡ [] → ending_of e.stream ≡ None → AreAsked d → Halts r now e
   halts_over over open_is asked = record {
     used = used;
     unused = unused;
@@ -517,17 +513,17 @@ module _ (r : Replay) (used unused : List ℕ) (now : Streams) (e : Execution) (
   }
 
 -- since the stream is ended
-pub halts_closed : (r : Replay) (used unused : List ℕ) (p : ℕ) (now : Streams) (old e : Execution) → Replays r used (p ∷ unused) now e → IsFilled old e → old.close ≡ None → e.close ≢ None → Halts r now e
+pub halts_closed : (r : Replay) (used unused : List ℕ) (p : ℕ) (now : Streams) (old e : Execution) → Replays r used (p ∷ unused) now e → IsFilled old e → ending_of old.stream ≡ None → ending_of e.stream ≢ None → Halts r now e
 halts_closed r used unused p now old e d f open_is ended = record {
   used = used;
   unused = p ∷ unused;
   replays = d;
   request = λ x ends. (λ none. cc, f.empty x open_is ends);
   over = λ none still. absurd (ended still);
-  requested = λ later in_words. by e.close refl later in_words;
+  requested = λ later in_words. by (ending_of e.stream) refl later in_words;
 }
   where
-    by : (close : Option Ending) → e.close ≡ close → (later : List (List ℤ)) → HaveInWords r.network.tree later → IsRequestedBy r.network (d.items ++ later) (requested_for close used (p ∷ unused)) (length d.items) close
+    by : (close : Option Ending) → ending_of e.stream ≡ close → (later : List (List ℤ)) → HaveInWords r.network.tree later → IsRequestedBy r.network (d.items ++ later) (requested_for close used (p ∷ unused)) (length d.items) close
     by None is later in_words = absurd (ended is)
     by (Some x) is later in_words = requested_before r used (p ∷ unused) now e d p (Some x) (all_sent r used (p ∷ unused) now e d (f.empty x open_is is)) later in_words
 
@@ -539,7 +535,7 @@ picks_left : (picks : List ℕ) (i : ℕ) → i < length picks → drop i picks 
 picks_left picks i low = (let next : suc i ≡ i + 1 = omega arith in drop-cons picks i 0 low ∙ ap (λ k. get_or picks i 0 ∷ drop k picks) next)
 
 -- an execution that was filled is ready for a pick, if there is no trap and the stream isn't ended
-pub ready_then : (old new : Execution) → IsFilled old new → old.emitted.trap ≡ None → new.close ≡ None → IsReady new
+pub ready_then : (old new : Execution) → IsFilled old new → old.emitted.trap ≡ None → ending_of new.stream ≡ None → IsReady new
 ready_then old e f untrapped open_is = record { open_is = open_is; filled = f.filled open_is; untrapped = ap (λ (t : Emitted). t.trap) f.same_emitted ∙ untrapped }
 
 -- a run whose picks are gone over, of which this number were made
@@ -549,9 +545,9 @@ module _ (r : Replay) (picks : List ℕ) (made : ℕ) (now : Streams) (e : Execu
     pub next_is : Replays r (take made picks) (get_or picks made 0 ∷ drop (made + 1) picks) now e
     next_is = subst (λ l. Replays r (take made picks) l now e) (picks_left picks made low) d
 
-    pub one_made : (after : Streams) (new : Execution) → (k : Replays r (take made picks ++ get_or picks made 0 ∷ []) (drop (made + 1) picks) after new) × (new.close ≡ None) × AreAsked k
-        → (k : Replays r (take (made + 1) picks) (drop (made + 1) picks) after new) × (new.close ≡ None) × AreAsked k
-    one_made after new then = subst (λ l. (k : Replays r l (drop (made + 1) picks) after new) × (new.close ≡ None) × AreAsked k) (sym (picks_longer picks made low)) then
+    pub one_made : (after : Streams) (new : Execution) → (k : Replays r (take made picks ++ get_or picks made 0 ∷ []) (drop (made + 1) picks) after new) × (ending_of new.stream ≡ None) × AreAsked k
+        → (k : Replays r (take (made + 1) picks) (drop (made + 1) picks) after new) × (ending_of new.stream ≡ None) × AreAsked k
+    one_made after new then = subst (λ l. (k : Replays r l (drop (made + 1) picks) after new) × (ending_of new.stream ≡ None) × AreAsked k) (sym (picks_longer picks made low)) then
 
   -- it has no more
   pub all_made : length picks ≤ made → drop made picks ≡ []
@@ -566,7 +562,7 @@ module _ (r : Replay) (now : Streams) (e : Execution) (h : Halts r now e) where
   reached = record {
     stream = e.stream;
     items = d.items;
-    close = e.close;
+    close = ending_of e.stream;
     gives = d.gives;
     used = h.used;
     unused = h.unused;
@@ -584,7 +580,7 @@ module _ (r : Replay) (now : Streams) (e : Execution) (h : Halts r now e) where
   }
 
   -- its state was saved
-  pub ends_saved : e.emitted.trap ≡ None → cut_of e.close ≡ None → (saved : Checkpoint) → Saves e saved → Comes r now (Ok (end.Saved saved))
+  pub ends_saved : e.emitted.trap ≡ None → cut_of (ending_of e.stream) ≡ None → (saved : Checkpoint) → Saves e saved → Comes r now (Ok (end.Saved saved))
   ends_saved untrapped whole saved saves = record {
     ends = record {
       reached = reached;
@@ -594,7 +590,7 @@ module _ (r : Replay) (now : Streams) (e : Execution) (h : Halts r now e) where
       items_are = saves.items_are ∙ items_given r h.used h.unused now e d;
       picks_are = saves.picks_are ∙ d.counted;
       untrapped = no_trap d.outcomes (sym d.trap_is ∙ untrapped);
-      over = by e.close whole (h.over untrapped);
+      over = by (ending_of e.stream) whole (h.over untrapped);
     };
     output = d.same_faults;
   }
@@ -609,12 +605,12 @@ module _ (r : Replay) (now : Streams) (e : Execution) (h : Halts r now e) where
       by (Some ending.TooLong) is over = absurd cc
 
   -- its stream ended so
-  pub ends_cut : e.emitted.trap ≡ None → (x : Ending) → cut_of e.close ≡ Some x → Comes r now (Ok (end.Ended (finish.Stream x)))
+  pub ends_cut : e.emitted.trap ≡ None → (x : Ending) → cut_of (ending_of e.stream) ≡ Some x → Comes r now (Ok (end.Ended (finish.Stream x)))
   ends_cut untrapped x cut = record {
     ends = record {
       reached = reached;
-      close_is = (by e.close cut).0;
-      other = (by e.close cut).1;
+      close_is = (by (ending_of e.stream) cut).0;
+      other = (by (ending_of e.stream) cut).1;
       untrapped = no_trap d.outcomes (sym d.trap_is ∙ untrapped);
     };
     output = d.same_faults;
@@ -630,7 +626,7 @@ module _ (r : Replay) (now : Streams) (e : Execution) (h : Halts r now e) where
       by (Some ending.TooLong) is = (is, λ same. cc)
 
   -- a trap was emitted
-  pub ends_trapped : (trap : Option Trap) → e.emitted.trap ≡ trap → trap ≢ None → (named : Tree) → r.network.named ≡ named → (f : RunEnd) → ((x : Ending) → MayEnd e.close x → f ≡ end_of named e.emitted.trap e.machine.emitted x) → Comes r now (Ok (end.Ended f))
+  pub ends_trapped : (trap : Option Trap) → e.emitted.trap ≡ trap → trap ≢ None → (named : Tree) → r.network.named ≡ named → (f : RunEnd) → ((x : Ending) → MayEnd (ending_of e.stream) x → f ≡ end_of named e.emitted.trap e.machine.emitted x) → Comes r now (Ok (end.Ended f))
   ends_trapped None is some named named_is f ends = absurd (some refl)
   ends_trapped (Some trap) is some named named_is f ends =
       subst (λ k. Comes r now (Ok (end.Ended k))) (sym f_is) (record {
@@ -650,11 +646,11 @@ module _ (r : Replay) (now : Streams) (e : Execution) (h : Halts r now e) where
       numbered : item_number r.network.start (length d.outcomes) ≡ length d.outcomes
       numbered = ap (λ k. item_number k (length d.outcomes)) d.begins
 
-      may : MayEnd e.close (some_end e.close)
-      may = may_end e.close
+      may : MayEnd (ending_of e.stream) (some_end (ending_of e.stream))
+      may = may_end (ending_of e.stream)
 
       f_is : f ≡ end_of r.network.named (Some trap) e.machine.emitted ending.End
-      f_is = ends (some_end e.close) may ∙ ap (λ t. end_of named t e.machine.emitted (some_end e.close)) is ∙ ap (λ t. end_of t (Some trap) e.machine.emitted ending.End) (sym named_is)
+      f_is = ends (some_end (ending_of e.stream)) may ∙ ap (λ t. end_of named t e.machine.emitted (some_end (ending_of e.stream))) is ∙ ap (λ t. end_of t (Some trap) e.machine.emitted ending.End) (sym named_is)
 
 -- the rooms of the queues that a shot restores are those of the channels
 rooms_of : (chans : List Chan) (lists : List (List SavedToken)) → map (λ (q : Queue). q.room) (queues_of chans lists) ≡ map (λ (c : Chan). c.cap) chans

@@ -44,7 +44,7 @@ use Rattle.p3l_run.specs.declared.fault.RunFault.TheVariants as fault
 use Rattle.p3l_run.specs.declared.run.Ran.{Ran}
 use Rattle.p3l_run.specs.declared.write.Emitted.{Emitted}
 use Rattle.p3l_run.specs.Execution.{Ends, Executes, HasFired, IsFinish, Job, started, stats_at}
-use Rattle.p3l_run.specs.Feed.{Feeds, FeedsInVain, Offers, closed_so, input_limit, most_of_input}
+use Rattle.p3l_run.specs.Feed.{Feeds, FeedsInVain, Offers, closed_so, ending_of, input_limit, most_of_input}
 use Rattle.p3l_run.specs.Laws.{Laws}
 use Rattle.p3l_run.specs.Network.{Network, begun_with, course_of, course_under, meaning_of, picks_of as picks_under, ready_at, size_of, width_of}
 use Rattle.p3l_run.specs.Run.{MayCome, MayFollow}
@@ -53,7 +53,7 @@ use Rattle.p3l_run.specs.Steps.{Stands}
 use Rattle.p3l_run.specs.Streams.{Streams, streams}
 use Rattle.p3l_run.specs.Timed.{AreTimed, AtTime, AwaitsInTime, BeginTimed, EndsEarly, EndsInTime, GoesInTime, InTime, NoneIsDue, timing, under}
 use Rattle.p3l_run.specs.Write.{HasBegun, HasPut, WriteCause}
-use Rattle.p3l_run.proofs.ExecutionSteps.{comes_then, ends_over, ends_early, ends_unfed, ends_unstarted, fed_in_vain, kept_more}
+use Rattle.p3l_run.proofs.ExecutionSteps.{comes_then, ends_over, ends_early, ends_unfed, ends_unstarted, fed, fed_in_vain, fed_so, kept_more}
 use Rattle.p3l_run.proofs.FeedSteps.{fed_fired, gives_first}
 use Rattle.p3l_run.proofs.RunSteps as steps
 use Rattle.p3l_run.proofs.TraceSteps.{picks_more}
@@ -166,16 +166,16 @@ module _ (job : Job) (prices : List ℕ) where
     abbrev d : Executes (under job is.picks) now e
     d = is.executes
 
-    stands : Stands n (schedules.Recorded is.picks) e.machine (way.Reads []) d.items e.close d.outcomes 0 d.walked
+    stands : Stands n (schedules.Recorded is.picks) e.machine (way.Reads []) d.items (ending_of e.stream) d.outcomes 0 d.walked
     stands =
-        subst (λ w. Stands n (schedules.Recorded is.picks) e.machine w d.items e.close d.outcomes 0 d.walked) is.reads
-        (subst (λ i. Stands n (schedules.Recorded is.picks) e.machine e.picker d.items e.close d.outcomes i d.walked) is.none_idle d.stands)
+        subst (λ w. Stands n (schedules.Recorded is.picks) e.machine w d.items (ending_of e.stream) d.outcomes 0 d.walked) is.reads
+        (subst (λ i. Stands n (schedules.Recorded is.picks) e.machine e.picker d.items (ending_of e.stream) d.outcomes i d.walked) is.none_idle d.stands)
 
     pub typed : IsTyped e.machine.tree e.machine.net
     typed = subst (λ t. IsTyped t e.machine.net) (sym d.stands.runs.tree) (subst (IsTyped n.tree) (sym d.stands.runs.net) d.laws.typed)
 
     pub in_step : IsInStep k e.machine
-    in_step = (is.at [] (steps.nothing_comes n e.close)).times.step
+    in_step = (is.at [] (steps.nothing_comes n (ending_of e.stream))).times.step
 
     -- the requirements of the timer after an item may have been offered
     pub others_due : (m : machine.Seen) (more : List (List ℤ)) → Offers e.machine m more → (r : ℕ) → r ≢ 0 → can_step m r ≡ is_some (due_at k.due r)
@@ -198,7 +198,7 @@ module _ (job : Job) (prices : List ℕ) where
 
     -- the timer and the machine after that
     fed_at : (m : machine.Seen) (new : Clock) (close : Option Ending) (more : List (List ℤ)) → Offers e.machine m more → AllByRecursion (λ (words : List ℤ). length words ≡ width_of n) more
-        → (more ≢ [] → e.close ≡ None) → ((x : Ending) → e.close ≡ Some x → close ≡ Some x) → IsRenewed m k new
+        → (more ≢ [] → ending_of e.stream ≡ None) → ((x : Ending) → ending_of e.stream ≡ Some x → close ≡ Some x) → IsRenewed m k new
         → (later : List (List ℤ)) → MayCome n close later → AtTime n prices new m ((d.items ++ more) ++ later) is.picks
     fed_at m new close [] same wide request kept renews later may =
         let was = is.at later (record { wide = may.wide; none = λ x c. may.none x (kept x c) }) in
@@ -221,52 +221,33 @@ module _ (job : Job) (prices : List ℕ) where
         none_open x h = cc
     fed_at m new close (item ∷ other ∷ more) offers wide request kept renews later may = absurd (let none = offers.2 in cc)
 
-    same_width : (node_at e.machine.tree 0).ins ≡ width_of n
-    same_width = ap (λ t. (node_at t 0).ins) d.stands.runs.tree
-
     -- the machine was fed
-    pub fed_in_time : (m : machine.Seen) (s : stream.Seen) (input : Observation (List ℕ)) (close : Option Ending) (new : Clock)
-        → Feeds (node_at e.machine.tree 0).ins e.machine m e.stream s (change now.input input) e.close close → IsRenewed m k new
-        → AwaitsInTime job prices (streams input now.output) (record e { machine = m; stream = s; close = close }) new × (m.fired ≡ e.machine.fired)
-    fed_in_time m s input close new feeds renews =
-        let f : Feeds (width_of n) e.machine m e.stream s (change now.input input) e.close close = subst (λ w. Feeds w e.machine m e.stream s (change now.input input) e.close close) same_width feeds in
-        let same = fed_fired e.machine m f.more f.offers in (
+    pub fed_in_time : (m : machine.Seen) (s : stream.Seen) (input : Observation (List ℕ)) (new : Clock) → Feeds (node_at e.machine.tree 0).ins e.machine m e.stream s (change now.input input) → IsRenewed m k new
+        → AwaitsInTime job prices (streams input now.output) (record e { machine = m; stream = s }) new × (m.fired ≡ e.machine.fired)
+    unfolding fed
+    fed_in_time m s input new feeds renews =
+        let f : Feeds (width_of n) e.machine m e.stream s (change now.input input) = fed_so (under job is.picks) now e d m s input feeds in
+        let same = fed_fired e.machine m f.more f.offers in
+        let awaits = (fed (under job is.picks) now e d m s input feeds).0 in (
           record {
             is = record {
               fresh_is = is.fresh_is;
               picks = is.picks;
-              executes = record {
-                laws = d.laws;
-                firings_is = d.firings_is;
-                fits = d.fits;
-                few = d.few;
-                numbered = d.numbered;
-                few_earlier = d.few_earlier;
-                items = d.items ++ f.more;
-                outcomes = d.outcomes;
-                walked = d.walked;
-                gives = f.gives job.before.input d.items d.gives;
-                stands = steps.stands_fed n d.laws (schedules.Recorded is.picks) e.machine m e.picker d.items e.close close d.outcomes e.idle d.walked d.stands f.kept f.more f.offers f.wide f.request;
-                trap_is = d.trap_is;
-                sum_is = d.sum_is;
-                put = d.put;
-                kept_is = d.kept_is;
-                same_faults = d.same_faults;
-              };
+              executes = awaits.executes;
               reads = is.reads;
               walked_are = is.walked_are;
               count = is.count ∙ sym same;
               none_idle = is.none_idle;
               prices_are = renews.prices ∙ is.prices_are;
               busy = λ p. ap (λ b. slice_index b p) renews.busy ∙ is.busy p;
-              at = fed_at m new close f.more f.offers f.wide f.request f.kept renews;
+              at = fed_at m new (ending_of s) f.more f.offers f.wide f.request f.kept renews;
             };
-            filled = f.filled;
+            filled = awaits.filled;
           },
           same,
         )
 
-    pub unfed_in_time : (s : stream.Seen) (input : Observation (List ℕ)) → FeedsInVain (node_at e.machine.tree 0).ins e.stream s (change now.input input) e.close → EndsEarly job prices (streams input now.output) fault.NoMemory
+    pub unfed_in_time : (s : stream.Seen) (input : Observation (List ℕ)) → FeedsInVain (node_at e.machine.tree 0).ins e.stream s (change now.input input) → EndsEarly job prices (streams input now.output) fault.NoMemory
     unfolding ends_unfed
     unfed_in_time s input vain =
         early_under job prices is.picks _ _ (ends_unfed (under job is.picks) now e d s input vain)
@@ -277,7 +258,7 @@ module _ (job : Job) (prices : List ℕ) where
 
     pub early_in_time : EndsEarly job prices now fault.NoMemory
     unfolding ends_early
-    early_in_time = early_under job prices is.picks _ _ (ends_early (under job is.picks) now e d) (λ later on. (is.at later (steps.may_come n e.close later on)).begins)
+    early_in_time = early_under job prices is.picks _ _ (ends_early (under job is.picks) now e d) (λ later on. (is.at later (steps.may_come n (ending_of e.stream) later on)).begins)
 
   module _ (now : Streams) (e : Execution) (k : Clock) (a : AwaitsInTime job prices now e k) where
     abbrev it : InTime job prices now e k
@@ -286,15 +267,15 @@ module _ (job : Job) (prices : List ℕ) where
     abbrev x : Executes (under job it.picks) now e
     x = it.executes
 
-    filled : (later : List (List ℤ)) → MayCome n e.close later → HasFilledInbox e.machine later
-    filled = steps.filled_after n e.close e.machine a.filled
+    filled : (later : List (List ℤ)) → MayCome n (ending_of e.stream) later → HasFilledInbox e.machine later
+    filled = steps.filled_after n (ending_of e.stream) e.machine a.filled
 
     t_course : (later : List (List ℤ)) → (timing n prices (x.items ++ later) it.picks).course ≡ course_under n (x.items ++ later) it.picks
     t_course later =
         same_course n.tree n.leaf n.net (price_at prices) (timing_from n.tree n.net (price_at prices) (x.items ++ later)) it.picks
         ∙ ap (λ s. after_picks n.tree n.leaf n.net (course_from (state_from s n.tree n.net (x.items ++ later))) it.picks) (sym it.fresh_is)
 
-    follows : (later : List (List ℤ)) → MayCome n e.close later → Follows e.machine x.outcomes later (timing n prices (x.items ++ later) it.picks).course
+    follows : (later : List (List ℤ)) → MayCome n (ending_of e.stream) later → Follows e.machine x.outcomes later (timing n prices (x.items ++ later) it.picks).course
     follows later may =
         subst (Follows e.machine x.outcomes later) (sym (t_course later))
         (subst (λ ps. Follows e.machine x.outcomes later (course_under n (x.items ++ later) ps)) it.walked_are (x.stands.at later may).follows)
@@ -304,7 +285,7 @@ module _ (job : Job) (prices : List ℕ) where
       pub stuck : ready_list e.machine ≡ []
       stuck = none_listed e.machine (λ p. sym ((in_step now e k it).due p) ∙ ap is_some (none p))
 
-      pub are_timed : (later : List (List ℤ)) → MayCome n e.close later → AreTimed n prices (x.items ++ later) it.picks
+      pub are_timed : (later : List (List ℤ)) → MayCome n (ending_of e.stream) later → AreTimed n prices (x.items ++ later) it.picks
       are_timed later may =
           let at = it.at later may in
           let t = timing n prices (x.items ++ later) it.picks in
@@ -312,8 +293,8 @@ module _ (job : Job) (prices : List ℕ) where
           begins_all n.tree n.leaf n.net (price_at prices) (timing_from n.tree n.net (price_at prices) (x.items ++ later)) it.picks at.begins over
 
       -- all picks were made
-      made_all : (later : List (List ℤ)) → MayCome n e.close later → picks_under n (schedules.Recorded it.picks) (x.items ++ later) ≡ it.picks
-      made_all = all_made n x.laws e.machine x.items e.close x.outcomes x.walked it.picks (stands now e k it) it.walked_are filled
+      made_all : (later : List (List ℤ)) → MayCome n (ending_of e.stream) later → picks_under n (schedules.Recorded it.picks) (x.items ++ later) ≡ it.picks
+      made_all = all_made n x.laws e.machine x.items (ending_of e.stream) x.outcomes x.walked it.picks (stands now e k it) it.walked_are filled
 
       -- so it is over
       pub ended_in_time : (named : Tree) → named ≡ n.named → (ran : Ran) → IsFinish named e ran.finish → ran.stats ≡ stats_at e → ran.lines ≡ e.kept → ran.sum ≡ e.emitted.sum → EndsInTime job prices now ran k
@@ -339,7 +320,7 @@ module _ (job : Job) (prices : List ℕ) where
 
       pub fired_few : e.machine.fired < 2 ^ 63
       fired_few =
-          let l = steps.few_fired n x.laws (schedules.Recorded it.picks) e.machine e.picker x.items e.close x.outcomes e.idle x.walked x.stands in
+          let l = steps.few_fired n x.laws (schedules.Recorded it.picks) e.machine e.picker x.items (ending_of e.stream) x.outcomes e.idle x.walked x.stands in
           let few = x.gives.few in
           let most = steps.few_fits n.start n.firings (length x.items) most_of_input (omega (arith, few)) in
           let fits = x.fits in
@@ -351,10 +332,10 @@ module _ (job : Job) (prices : List ℕ) where
       in_size : p < size_of n
       in_size = subst (λ (k : Net). p < length k.procs) x.stands.runs.net there
 
-      recorded_one : Stands n (schedules.Recorded (it.picks ++ p ∷ [])) e.machine (way.Reads (p ∷ [])) x.items e.close x.outcomes 0 x.walked
-      recorded_one = one_recorded n x.laws e.machine x.items e.close x.outcomes x.walked it.picks (stands now e k it) it.walked_are filled p in_size some
+      recorded_one : Stands n (schedules.Recorded (it.picks ++ p ∷ [])) e.machine (way.Reads (p ∷ [])) x.items (ending_of e.stream) x.outcomes 0 x.walked
+      recorded_one = one_recorded n x.laws e.machine x.items (ending_of e.stream) x.outcomes x.walked it.picks (stands now e k it) it.walked_are filled p in_size some
 
-      begins_next : (later : List (List ℤ)) → MayCome n e.close later → BeginTimed n prices (x.items ++ later) (it.picks ++ p ∷ [])
+      begins_next : (later : List (List ℤ)) → MayCome n (ending_of e.stream) later → BeginTimed n prices (x.items ++ later) (it.picks ++ p ∷ [])
       begins_next later may =
           let at = it.at later may in
           let items : List (List ℤ) = x.items ++ later in
@@ -397,8 +378,8 @@ module _ (job : Job) (prices : List ℕ) where
         abbrev line : TraceLine
         line = record { pick = p; kind = Some fired.kind }
 
-        stands_more : Stands n (schedules.Recorded (it.picks ++ p ∷ [])) e'.machine (way.Reads []) x.items e.close (x.outcomes ++ option_to_list handed) 0 (x.walked ++ line ∷ [])
-        stands_more = steps.stands_fired n x.laws (schedules.Recorded (it.picks ++ p ∷ [])) e.machine (way.Reads (p ∷ [])) x.items e.close x.outcomes 0 x.walked recorded_one filled p (Some fired.kind) refl some e'.machine handed can fires there fired.kind fired.kind_is refl
+        stands_more : Stands n (schedules.Recorded (it.picks ++ p ∷ [])) e'.machine (way.Reads []) x.items (ending_of e.stream) (x.outcomes ++ option_to_list handed) 0 (x.walked ++ line ∷ [])
+        stands_more = steps.stands_fired n x.laws (schedules.Recorded (it.picks ++ p ∷ [])) e.machine (way.Reads (p ∷ [])) x.items (ending_of e.stream) x.outcomes 0 x.walked recorded_one filled p (Some fired.kind) refl some e'.machine handed can fires there fired.kind fired.kind_is refl
 
         pub ends_unwritten_in_time : (output : Observation (List ℕ)) (failed : RunFault) → HasBegun (change now.output output) (text_of (option_to_list handed)) → WriteCause {T = Emitted} (change now.output output) (Err failed)
             → EndsEarly job prices (streams now.input output) failed
@@ -407,22 +388,22 @@ module _ (job : Job) (prices : List ℕ) where
               ends = record {
                 stream = e.stream;
                 items = x.items;
-                closed = closed_so e.close;
+                closed = closed_so (ending_of e.stream);
                 gives = x.gives;
                 begun =
                     steps.begun_last (meaning_of n x.items) x.outcomes handed job.before.output now.output output
-                    (steps.led_begins n x.laws (schedules.Recorded (it.picks ++ p ∷ [])) e.machine (way.Reads (p ∷ [])) x.items e.close x.outcomes 0 x.walked recorded_one filled p None refl some e'.machine handed can fires) x.put begun;
+                    (steps.led_begins n x.laws (schedules.Recorded (it.picks ++ p ∷ [])) e.machine (way.Reads (p ∷ [])) x.items (ending_of e.stream) x.outcomes 0 x.walked recorded_one filled p None refl some e'.machine handed can fires) x.put begun;
                 emits = λ later on.
                     steps.begun_last (course_of n (schedules.Recorded (it.picks ++ p ∷ [])) (x.items ++ later)).state.emitted x.outcomes handed job.before.output now.output output
-                    (steps.begins_emitted n x.laws (schedules.Recorded (it.picks ++ p ∷ [])) e'.machine (way.Reads []) x.items e.close (x.outcomes ++ option_to_list handed) 0 (x.walked ++ line ∷ []) stands_more later (steps.may_come n e.close later on))
+                    (steps.begins_emitted n x.laws (schedules.Recorded (it.picks ++ p ∷ [])) e'.machine (way.Reads []) x.items (ending_of e.stream) (x.outcomes ++ option_to_list handed) 0 (x.walked ++ line ∷ []) stands_more later (steps.may_come n (ending_of e.stream) later on))
                     x.put begun;
               };
               output = cause_on Ran Emitted job.before.output now.output output failed x.same_faults cause;
             })
-            (λ later on. begins_next later (steps.may_come n e.close later on))
+            (λ later on. begins_next later (steps.may_come n (ending_of e.stream) later on))
 
         module _ (k' : Clock) (item : p ≢ 0 → e'.machine.inbox ≡ e.machine.inbox) (tells : clock.HasFired e'.machine p k k') where
-          at_next : (later : List (List ℤ)) → MayCome n e.close later → AtTime n prices k' e'.machine (x.items ++ later) (it.picks ++ p ∷ [])
+          at_next : (later : List (List ℤ)) → MayCome n (ending_of e.stream) later → AtTime n prices k' e'.machine (x.items ++ later) (it.picks ++ p ∷ [])
           at_next later may =
               let at = it.at later may in
               let items : List (List ℤ) = x.items ++ later in
@@ -471,8 +452,8 @@ module _ (job : Job) (prices : List ℕ) where
                 walked = x.walked ++ line ∷ [];
                 gives = x.gives;
                 stands =
-                    subst (λ i. Stands n (schedules.Recorded (it.picks ++ p ∷ [])) e'.machine e.picker x.items e.close (x.outcomes ++ option_to_list handed) i (x.walked ++ line ∷ [])) (sym it.none_idle)
-                    (subst (λ w. Stands n (schedules.Recorded (it.picks ++ p ∷ [])) e'.machine w x.items e.close (x.outcomes ++ option_to_list handed) 0 (x.walked ++ line ∷ [])) (sym it.reads)
+                    subst (λ i. Stands n (schedules.Recorded (it.picks ++ p ∷ [])) e'.machine e.picker x.items (ending_of e.stream) (x.outcomes ++ option_to_list handed) i (x.walked ++ line ∷ [])) (sym it.none_idle)
+                    (subst (λ w. Stands n (schedules.Recorded (it.picks ++ p ∷ [])) e'.machine w x.items (ending_of e.stream) (x.outcomes ++ option_to_list handed) 0 (x.walked ++ line ∷ [])) (sym it.reads)
                     stands_more);
                 trap_is = trap_is ∙ ap (λ y. fold trap_after y.emitted.trap (option_to_list handed)) fired.rest ∙ steps.trap_more e.emitted.trap x.outcomes (option_to_list handed) x.trap_is;
                 sum_is = sum_is ∙ ap (λ y. fold sum_after y.emitted.sum (option_to_list handed)) fired.rest ∙ steps.sum_more e.emitted.sum x.outcomes (option_to_list handed) x.sum_is;
@@ -496,7 +477,7 @@ module _ (job : Job) (prices : List ℕ) where
               few_more : length (it.picks ++ p ∷ []) < 2 ^ 63
               few_more =
                   let long = length-append it.picks (p ∷ []) in
-                  let l = steps.firing_left_given n x.laws (schedules.Recorded (it.picks ++ p ∷ [])) e.machine (way.Reads (p ∷ [])) x.items e.close x.outcomes 0 x.walked recorded_one filled p (Some fired.kind) refl some e'.machine handed can fires in
+                  let l = steps.firing_left_given n x.laws (schedules.Recorded (it.picks ++ p ∷ [])) e.machine (way.Reads (p ∷ [])) x.items (ending_of e.stream) x.outcomes 0 x.walked recorded_one filled p (Some fired.kind) refl some e'.machine handed can fires in
                   let few = x.gives.few in
                   let most = steps.few_fits n.start n.firings (length x.items) most_of_input (omega (arith, few)) in
                   let fits = x.fits in
@@ -515,7 +496,7 @@ pub fired_at_most : {job : Job} {prices : List ℕ} {now : Streams} {e : Executi
 fired_at_most {job = job} {e = e} is =
     let d = is.executes in
     let n : Network = job.network in
-    let l = steps.few_fired n d.laws (schedules.Recorded is.picks) e.machine e.picker d.items e.close d.outcomes e.idle d.walked d.stands in
+    let l = steps.few_fired n d.laws (schedules.Recorded is.picks) e.machine e.picker d.items (ending_of e.stream) d.outcomes e.idle d.walked d.stands in
     let few = d.gives.few in
     let most = steps.few_fits n.start n.firings (length d.items) most_of_input (omega (arith, few)) in
     let fits = d.fits in

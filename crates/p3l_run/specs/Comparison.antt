@@ -11,7 +11,7 @@ use Rattle.p3l_firing.specs.Nodes.{Leaf}
 use Rattle.p3l_net.specs.Offered.{Follows}
 use Rattle.p3l_stream.specs.declared.items.Ending.{Ending}
 use Rattle.p3l_stream.specs.Seen as stream
-use Rattle.p3l_run.specs.Feed.{Gives, closed_so, input_limit, most_of_input}
+use Rattle.p3l_run.specs.Feed.{Gives, closed_so, ending_of, input_limit, most_of_input}
 use Rattle.p3l_run.specs.Laws.{Laws, Runs}
 use Rattle.p3l_run.specs.Network.{Network, begun_with, course_under, width_of}
 use Rattle.p3l_run.specs.Run.{MayCome}
@@ -34,7 +34,7 @@ pub record Stands (n : Network) (m : Seen) (given : List (List ℤ)) (close : Op
 
 -- a comparison that was just started
 abbrev pub started : Tree → Net → ℕ → Comparison
-started tree net width = record { machine = machine.started tree net; stream = stream.started width input_limit; close = None }
+started tree net width = record { machine = machine.started tree net; stream = stream.started width input_limit }
 
 -- these lines of a trace of the network, whose runs begin with nothing fired, were passed, on the items that the stream gave of the
 -- input; once that has ended no item waits
@@ -44,22 +44,22 @@ pub record HasPassed (n : Network) (input : Change (List ℕ)) (walked : List Tr
   pub fits : most_from n.start n.firings most_of_input < 2 ^ 63
   pub items : List (List ℤ)
   pub outcomes : List Outcome
-  pub gives : Gives (width_of n) input w.stream items (closed_so w.close)
-  pub stands : Stands n w.machine items w.close outcomes walked
-  pub empty : (e : Ending) → w.close ≡ Some e → w.machine.inbox ≡ None
+  pub gives : Gives (width_of n) input w.stream items (closed_so (ending_of w.stream))
+  pub stands : Stands n w.machine items (ending_of w.stream) outcomes walked
+  pub empty : (e : Ending) → ending_of w.stream ≡ Some e → w.machine.inbox ≡ None
 
 -- a comparison with a trace of the network is under way: items were requested before the picks of the lines passed, and none after
 pub record Walks (n : Network) (input : Change (List ℕ)) (walked : List TraceLine) (w : Comparison) : Type 0 where
   pub passed : HasPassed n input walked w
-  pub request : (later : List (List ℤ)) → MayCome n w.close later →
-      IsRequestedBy n (passed.items ++ later) (picks_of walked) (length passed.items) w.close
+  pub request : (later : List (List ℤ)) → MayCome n (ending_of w.stream) later →
+      IsRequestedBy n (passed.items ++ later) (picks_of walked) (length passed.items) (ending_of w.stream)
 
 -- an item was requested once more, so the inbox is filled, as long as the stream isn't ended, and the machine can fire just where
 -- the network can
 pub record AwaitsLine (n : Network) (input : Change (List ℕ)) (walked : List TraceLine) (w : Comparison) : Type 0 where
   pub passed : HasPassed n input walked w
-  pub filled : w.close ≡ None → w.machine.inbox ≢ None
-  pub waits : length passed.items ≡ w.machine.sent + one_waits w.close
+  pub filled : ending_of w.stream ≡ None → w.machine.inbox ≢ None
+  pub waits : length passed.items ≡ w.machine.sent + one_waits (ending_of w.stream)
 
 -- a comparison with some network is under way, with these bodies of modules
 pub record IsUnderWay (leaf : Leaf) (now : Observation (List ℕ)) (w : Comparison) : Type 0 where

@@ -24,7 +24,7 @@ use Rattle.p3l_run.specs.declared.fault.RunFault.{RunFault}
 use Rattle.p3l_run.specs.declared.fault.RunFault.TheVariants as fault
 use Rattle.p3l_run.specs.declared.keeping.Keeping.{Keeping}
 use Rattle.p3l_run.specs.declared.run.Ran.{Ran}
-use Rattle.p3l_run.specs.Feed.{Gives, closed_so, input_limit, most_of_input}
+use Rattle.p3l_run.specs.Feed.{Gives, closed_so, ending_of, input_limit, most_of_input}
 use Rattle.p3l_run.specs.Keeping.{kept_by}
 use Rattle.p3l_run.specs.Laws.{Laws}
 use Rattle.p3l_run.specs.Network.{Network, width_of}
@@ -64,7 +64,6 @@ begun_on m earlier firings width schedule keeping =
       earlier = earlier;
       stream = stream.started width input_limit;
       picker = begun schedule;
-      close = None;
       emitted = record { trap = None; sum = pos 0 };
       idle = 0;
       kept = kept_by keeping [];
@@ -86,8 +85,8 @@ pub record Executes (job : Job) (now : Streams) (e : Execution) : Type 0 where
   pub items : List (List ℤ)
   pub outcomes : List Outcome
   pub walked : List TraceLine
-  pub gives : Gives (width_of job.network) (change job.before.input now.input) e.stream items (closed_so e.close)
-  pub stands : Stands job.network job.schedule e.machine e.picker items e.close outcomes e.idle walked
+  pub gives : Gives (width_of job.network) (change job.before.input now.input) e.stream items (closed_so (ending_of e.stream))
+  pub stands : Stands job.network job.schedule e.machine e.picker items (ending_of e.stream) outcomes e.idle walked
   pub trap_is : e.emitted.trap ≡ trap_of outcomes
   pub sum_is : e.emitted.sum ≡ sum_of outcomes
   pub put : HasPut (change job.before.output now.output) (text_of outcomes)
@@ -97,7 +96,7 @@ pub record Executes (job : Job) (now : Streams) (e : Execution) : Type 0 where
 -- the same where the inbox is filled, as long as the stream isn't ended, so that the machine can fire just where the network can
 pub record AwaitsPick (job : Job) (now : Streams) (e : Execution) : Type 0 where
   pub executes : Executes job now e
-  pub filled : e.close ≡ None → e.machine.inbox ≢ None
+  pub filled : ending_of e.stream ≡ None → e.machine.inbox ≢ None
 
 -- the next pick, which is one where some process can fire
 abbrev pub pick_at : Execution → Option ℕ
@@ -135,7 +134,7 @@ pub record HasFired (leaf : Leaf) (p : ℕ) (old new : Execution) (handed : Opti
 
 -- the end of an execution that has no pick left; the modules of this tree name its trap
 pub record IsFinish (named : Tree) (e : Execution) (f : RunEnd) : Type 0 where
-  pub stuck : ready_list e.machine ≡ [] → (close : Ending) → MayEnd e.close close → f ≡ end_of named e.emitted.trap (e.earlier + e.machine.emitted) close
+  pub stuck : ready_list e.machine ≡ [] → (close : Ending) → MayEnd (ending_of e.stream) close → f ≡ end_of named e.emitted.trap (e.earlier + e.machine.emitted) close
   pub stopped : ready_list e.machine ≢ [] → f ≡ finish.Stopped e.machine.fired e.idle
 
 -- the numbers of an execution

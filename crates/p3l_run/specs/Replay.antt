@@ -22,7 +22,7 @@ use Rattle.p3l_run.specs.declared.execution.Execution.{Execution}
 use Rattle.p3l_run.specs.declared.fault.RunFault.{RunFault}
 use Rattle.p3l_run.specs.declared.fault.RunFault.TheVariants as fault
 use Rattle.p3l_run.specs.Checkpoint.{IsCheckpointEnd}
-use Rattle.p3l_run.specs.Feed.{Gives, closed_so}
+use Rattle.p3l_run.specs.Feed.{Gives, closed_so, ending_of}
 use Rattle.p3l_run.specs.Laws.{Laws, Runs}
 use Rattle.p3l_run.specs.Network.{Network, course_under, size_of, width_of}
 use Rattle.p3l_run.specs.Requested.{IsRequestedBy, requested_for}
@@ -56,7 +56,7 @@ pub record Replays (r : Replay) (used unused : List ℕ) (now : Streams) (e : Ex
   pub named : AllByRecursion (λ p. p < size_of r.network) unused
   pub items : List (List ℤ)
   pub outcomes : List Outcome
-  pub gives : Gives (width_of r.network) (change r.before.input now.input) e.stream items (closed_so e.close)
+  pub gives : Gives (width_of r.network) (change r.before.input now.input) e.stream items (closed_so (ending_of e.stream))
   pub runs : Runs r.network e.machine
   pub wide : HaveInWords r.network.tree items
   pub follows : (later : List (List ℤ)) → HaveInWords r.network.tree later → Follows e.machine outcomes later (course_under r.network (items ++ later) used)
@@ -71,18 +71,18 @@ pub record Replays (r : Replay) (used unused : List ℕ) (now : Streams) (e : Ex
 
 -- items were requested before the picks made, and none after
 abbrev pub AreAsked : {r : Replay} {used unused : List ℕ} {now : Streams} {e : Execution} → Replays r used unused now e → Type 0
-AreAsked {r} {used} {unused} {now} {e} d = (later : List (List ℤ)) → HaveInWords r.network.tree later → IsRequestedBy r.network (d.items ++ later) used (length d.items) e.close
+AreAsked {r} {used} {unused} {now} {e} d = (later : List (List ℤ)) → HaveInWords r.network.tree later → IsRequestedBy r.network (d.items ++ later) used (length d.items) (ending_of e.stream)
 
 -- the next pick can be made: the stream isn't ended, the inbox is filled, and no trap was emitted
 pub record IsReady (e : Execution) : Type 0 where
-  pub open_is : e.close ≡ None
+  pub open_is : ending_of e.stream ≡ None
   pub filled : e.machine.inbox ≢ None
   pub untrapped : e.emitted.trap ≡ None
 
 -- after an item of the stream was requested, where the inbox was empty: the inbox is filled, as long as the stream isn't ended
 pub record IsFilled (old new : Execution) : Type 0 where
-  pub filled : new.close ≡ None → new.machine.inbox ≢ None
-  pub empty : (x : Ending) → old.close ≡ None → new.close ≡ Some x → new.machine.inbox ≡ None
+  pub filled : ending_of new.stream ≡ None → new.machine.inbox ≢ None
+  pub empty : (x : Ending) → ending_of old.stream ≡ None → ending_of new.stream ≡ Some x → new.machine.inbox ≡ None
   pub same_emitted : new.emitted ≡ old.emitted
 
 -- whatever run it is, an execution that was filled is on it still
@@ -96,7 +96,7 @@ FillsOn input old new (Err want) =
 abbrev pub MakesOn : Leaf → (p : ℕ) → (output : Change (List ℕ)) → (old new : Execution) → Result (Unit {0}) RunFault → Type 0
 MakesOn leaf p output old new (Ok done) =
     (r : Replay) (used unused : List ℕ) (input : Observation (List ℕ)) → r.network.leaf ≡ leaf → Replays r used (p ∷ unused) (streams input output.old) old → IsReady old →
-    (d : Replays r (used ++ p ∷ []) unused (streams input output.new) new) × (new.close ≡ None) × AreAsked d
+    (d : Replays r (used ++ p ∷ []) unused (streams input output.new) new) × (ending_of new.stream ≡ None) × AreAsked d
 MakesOn leaf p output old new (Err failed) =
     (r : Replay) (used unused : List ℕ) (input : Observation (List ℕ)) → r.network.leaf ≡ leaf → Replays r used (p ∷ unused) (streams input output.old) old → IsReady old →
     Comes r (streams input output.new) (Err failed)
@@ -104,7 +104,7 @@ MakesOn leaf p output old new (Err failed) =
 -- a run on which none of these picks was made, and whose stream isn't ended
 pub record Opens (r : Replay) (picks : List ℕ) (now : Streams) (e : Execution) : Type 0 where
   pub replays : Replays r [] picks now e
-  pub open_is : e.close ≡ None
+  pub open_is : ending_of e.stream ≡ None
   pub asked : AreAsked replays
 
 -- a run that goes no further: a trap was emitted, or the stream ended in place of an item for the next pick, or no pick is left
@@ -112,9 +112,9 @@ pub record Halts (r : Replay) (now : Streams) (e : Execution) : Type 0 where
   pub used : List ℕ
   pub unused : List ℕ
   pub replays : Replays r used unused now e
-  pub request : (x : Ending) → e.close ≡ Some x → (unused ≢ []) × (e.machine.inbox ≡ None)
-  pub over : e.emitted.trap ≡ None → e.close ≡ None → unused ≡ []
-  pub requested : (later : List (List ℤ)) → HaveInWords r.network.tree later → IsRequestedBy r.network (replays.items ++ later) (requested_for e.close used unused) (length replays.items) e.close
+  pub request : (x : Ending) → ending_of e.stream ≡ Some x → (unused ≢ []) × (e.machine.inbox ≡ None)
+  pub over : e.emitted.trap ≡ None → ending_of e.stream ≡ None → unused ≡ []
+  pub requested : (later : List (List ℤ)) → HaveInWords r.network.tree later → IsRequestedBy r.network (replays.items ++ later) (requested_for (ending_of e.stream) used unused) (length replays.items) (ending_of e.stream)
 
 -- some run is to be made of these picks, with these bodies of modules
 pub record IsToReplay (leaf : Leaf) (picks : List ℕ) (now : Streams) (e : Execution) : Type 0 where
@@ -124,7 +124,7 @@ pub record IsToReplay (leaf : Leaf) (picks : List ℕ) (now : Streams) (e : Exec
 
 -- whatever run it is, with these bodies of modules, this number of its picks were made, and its stream isn't ended
 abbrev pub LeadsTo : Leaf → (picks : List ℕ) → (made : ℕ) → (before now : Streams) → (old new : Execution) → Type 0
-LeadsTo leaf picks made before now old new = (r : Replay) → r.network.leaf ≡ leaf → Opens r picks before old → (d : Replays r (take made picks) (drop made picks) now new) × (new.close ≡ None) × AreAsked d
+LeadsTo leaf picks made before now old new = (r : Replay) → r.network.leaf ≡ leaf → Opens r picks before old → (d : Replays r (take made picks) (drop made picks) now new) × (ending_of new.stream ≡ None) × AreAsked d
 
 -- whatever run it is, with these bodies of modules, an execution makes its picks until it goes no further
 abbrev pub HaltsOn : Leaf → (picks : List ℕ) → (before now : Streams) → (old new : Execution) → Result (Unit {0}) RunFault → Type 0

@@ -20,6 +20,7 @@ use Rattle.p3l_run.specs.declared.in_time.TimedRan.{TimedRan}
 use Rattle.p3l_run.specs.declared.keeping.Keeping.{Keeping}
 use Rattle.p3l_run.specs.declared.run.Ran.{Ran}
 use Rattle.p3l_run.specs.Execution.{Ends, Executes, Job}
+use Rattle.p3l_run.specs.Feed.{ending_of}
 use Rattle.p3l_run.specs.Network.{Network, picks_of}
 use Rattle.p3l_run.specs.Run.{MayCome, MayFollow}
 use Rattle.p3l_run.specs.Start.{fresh}
@@ -57,12 +58,12 @@ pub record InTime (job : Job) (prices : List ℕ) (now : Streams) (e : Execution
   pub none_idle : e.idle ≡ 0
   pub prices_are : k.prices ≡ prices
   pub busy : (p : ℕ) → slice_index k.busy p ≡ busy_of (price_at prices) picks p
-  pub at : (later : List (List ℤ)) → MayCome job.network e.close later → AtTime job.network prices k e.machine (executes.items ++ later) picks
+  pub at : (later : List (List ℤ)) → MayCome job.network (ending_of e.stream) later → AtTime job.network prices k e.machine (executes.items ++ later) picks
 
 -- the same where the inbox is filled, as long as the stream isn't ended
 pub record AwaitsInTime (job : Job) (prices : List ℕ) (now : Streams) (e : Execution) (k : Clock) : Type 0 where
   pub is : InTime job prices now e k
-  pub filled : e.close ≡ None → e.machine.inbox ≢ None
+  pub filled : ending_of e.stream ≡ None → e.machine.inbox ≢ None
 
 -- the run of a job came to its end, at these prices: it ended as under its picks, which are those of the timed run of the items that
 -- the stream gave, and whatever may still come after them; and so long was each process busy when it fired last

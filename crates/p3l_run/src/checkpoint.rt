@@ -1,7 +1,7 @@
 // Runs that end at a checkpoint, where the state of the network is saved.
 
-ghost use Rattle.std.specs.Prelude.{◌≡◌, ◌<◌, ◌≤◌, ◌+◌, ◌*◌, ◌^◌, None, OnErr, false, length, IfErr};
-ghost use Rattle.p3l_base.specs.Memory.{IfGiven, Refused};
+ghost use Rattle.std.specs.Prelude.{◌≡◌, ◌<◌, ◌≤◌, ◌+◌, ◌*◌, ◌^◌, false, length, IfErr};
+ghost use Rattle.p3l_base.specs.Memory.{IfGiven};
 ghost use Rattle.std.specs.Option.{option_to_list};
 ghost use Rattle.p3l_firing.specs.Shot.{IsCountable};
 ghost use Rattle.p3l_io.specs.Change.{change};
@@ -12,7 +12,7 @@ ghost use Rattle.p3l_skel.specs.Tree.{node_at};
 ghost use Rattle.p3l_run.specs.Checkpoint.{IsCheckpointEnd};
 ghost use Rattle.p3l_run.specs.Feed.{most_of_input};
 ghost use Rattle.p3l_run.specs.Network.{IsSound, network};
-ghost use Rattle.p3l_run.specs.Replay.{ComesTo, FillsOn, HaltsOn, IsHalted, IsToReplay, MakesOn, Saves, cut_of};
+ghost use Rattle.p3l_run.specs.Replay.{ComesTo, HaltsOn, IsHalted, IsToReplay, MakesOn, Saves, cut_of};
 ghost use Rattle.p3l_run.specs.Streams.{streams};
 ghost use Rattle.p3l_run.specs.Wants.{Wants};
 ghost use Rattle.p3l_run.specs.Write.{WriteCause};
@@ -20,7 +20,6 @@ ghost use Rattle.p3l_run.specs.Write.{WriteCause};
 use crate::end::RunEnd;
 use crate::execution::Execution;
 use crate::fault::RunFault;
-use crate::feed::feed;
 use crate::finish::finish_with;
 use crate::keeping::Keeping;
 use crate::laws::laws;
@@ -55,24 +54,6 @@ pub enum CheckpointEnd {
 }
 
 impl<'t> Execution<'t> {
-    /// Requests the next item of the stream, where the inbox is empty.
-    fn fill<S: Source>(&mut self, alloc: Global, input: &mut S) -> Result<(), NoMemory>
-        requires wide { self.old.stream.words ≡ (node_at self.old.machine.tree 0).ins }
-        requires open { self.old.close ≡ None → self.old.stream.closed ≡ None }
-        ensures fills { FillsOn (change (S.observed input.old) (S.observed input.new))
-            self.old self.new result }
-        ensures wants { OnErr result Refused }
-    {
-        self.close = feed(
-            alloc,
-            &mut self.machine,
-            &mut self.stream,
-            self.close,
-            input,
-        )?;
-        Ok(())
-    }
-
     /// Makes a pick of a process: where it can fire it does, and what it emits is written; else the
     /// pick is idle.
     fn make<U: Units, K: Sink>(
@@ -126,8 +107,8 @@ impl<'t> Execution<'t> {
             if self.emitted.trap.is_some() {
                 return Ok(());
             }
-            self.fill(alloc, input)?;
-            if self.close.is_some() {
+            self.feed(alloc, input)?;
+            if self.stream.ending().is_some() {
                 return Ok(());
             }
             self.make(alloc, tree, units, *process, out)?;
@@ -170,17 +151,13 @@ impl<'t> Execution<'t> {
         requires { IsHalted self }
         ensures { IfGiven result (ComesTo named.now self.entry) }
     {
+        let close = self.stream.ending();
         if self.emitted.trap.is_some() {
-            let finish = finish_with(
-                alloc,
-                named,
-                self.emitted.trap,
-                self.machine.emitted(),
-                self.close,
-            )?;
+            let number = self.machine.emitted();
+            let finish = finish_with(alloc, named, self.emitted.trap, number, close)?;
             return Ok(CheckpointEnd::Ended(finish));
         }
-        if let Some(ending) = cut_off(self.close) {
+        if let Some(ending) = cut_off(close) {
             return Ok(CheckpointEnd::Ended(RunEnd::Stream(ending)));
         }
         let saved = self.save(alloc)?;

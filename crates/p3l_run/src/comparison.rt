@@ -1,18 +1,19 @@
 // A trace compared with a machine, line by line.
 
-ghost use Rattle.std.specs.Prelude.{◌≡◌, ◌<◌, ◌≤◌, ◌^◌, None, length, true};
+ghost use Rattle.std.specs.Prelude.{◌≡◌, ◌<◌, ◌≤◌, ◌^◌, length, true};
 ghost use Rattle.p3l_base.specs.Memory.{IfGiven, IfGivenOr, OnGiven, OnGivenOr};
 ghost use Rattle.p3l_io.specs.Change.{change};
 ghost use Rattle.p3l_firing.specs.Typed.{IsTyped};
 ghost use Rattle.p3l_skel.specs.Tree.{node_at};
 ghost use Rattle.p3l_run.specs.Comparison.{FeedsOn, IsUnderWay, PassesOn, Steps, started};
+ghost use Rattle.p3l_run.specs.Feed.{IsOpenOrEnded};
 
 use crate::feed::{INPUT_LIMIT, feed};
 use p3l_base::NoMemory;
 use p3l_io::Source;
 use p3l_net::{Machine, Net};
 use p3l_skel::{Tree, Units};
-use p3l_stream::{Ending, Lines};
+use p3l_stream::Lines;
 use p3l_trace::{TraceLine, agrees};
 use std::alloc::Global;
 
@@ -20,9 +21,7 @@ use std::alloc::Global;
 #[derive(Drop)]
 pub(crate) struct Comparison<'t> {
     machine: Machine<'t>,
-    stream: Lines,
-    /// The ending of the stream, once it has ended.
-    pub(crate) close: Option<Ending>,
+    pub(crate) stream: Lines,
 }
 
 impl<'t> Comparison<'t> {
@@ -40,7 +39,6 @@ impl<'t> Comparison<'t> {
         Ok(Comparison {
             machine: Machine::start(alloc, tree, net)?,
             stream: Lines::new(alloc, width, INPUT_LIMIT)?,
-            close: None,
         })
     }
 
@@ -72,18 +70,11 @@ impl<'t> Comparison<'t> {
     /// Requests the next item of the stream, where the machine wants one.
     fn feed<S: Source>(&mut self, alloc: Global, input: &mut S) -> Result<(), NoMemory>
         requires wide { self.old.stream.words ≡ (node_at self.old.machine.tree 0).ins }
-        requires open { self.old.close ≡ None → self.old.stream.closed ≡ None }
+        requires open { IsOpenOrEnded self.old.stream }
         ensures { OnGiven result (FeedsOn (change (S.observed input.old) (S.observed input.new))
             self.old self.new) }
     {
-        self.close = feed(
-            alloc,
-            &mut self.machine,
-            &mut self.stream,
-            self.close,
-            input,
-        )?;
-        Ok(())
+        feed(alloc, &mut self.machine, &mut self.stream, input)
     }
 
     /// Makes a pick: the process fires, if it can.

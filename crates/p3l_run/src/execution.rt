@@ -9,6 +9,8 @@ ghost use Rattle.p3l_net.specs.Steps.{OthersStay};
 ghost use Rattle.p3l_firing.specs.Typed.{IsTyped};
 ghost use Rattle.p3l_sched.specs.Picker.{HasPlace, HasProcesses};
 ghost use Rattle.p3l_skel.specs.Tree.{node_at};
+ghost use Rattle.p3l_run.specs.Feed.{IsOpenOrEnded, ending_of};
+ghost use Rattle.p3l_run.specs.Replay.{FillsOn};
 ghost use Rattle.p3l_run.specs.Streams.{streams};
 ghost use Rattle.p3l_run.specs.Wants.{Wants};
 ghost use Rattle.p3l_run.specs.Execution.{Completes, FeedsOn, FiresOn, HasFired, IsFinish, IsInRange, IsUnderWay, MayPick, RunsOut, StepsOn, after_idle, begun_on, started, stats_at};
@@ -26,7 +28,7 @@ use p3l_io::{Sink, Source};
 use p3l_net::Machine;
 use p3l_sched::{Picker, Schedule};
 use p3l_skel::{Tree, Units};
-use p3l_stream::{Ending, Lines};
+use p3l_stream::Lines;
 use p3l_trace::TraceLine;
 use std::alloc::Global;
 
@@ -40,8 +42,6 @@ pub(crate) struct Execution<'t> {
     pub(crate) earlier: u64,
     pub(crate) stream: Lines,
     pub(crate) picker: Picker,
-    /// The ending of the stream, once it has ended.
-    pub(crate) close: Option<Ending>,
     pub(crate) emitted: Emitted,
     /// The count of idle picks.
     pub(crate) idle: u64,
@@ -90,7 +90,6 @@ impl<'t> Execution<'t> {
             earlier,
             stream: Lines::new(alloc, width, INPUT_LIMIT)?,
             picker: Picker::new(schedule),
-            close: None,
             emitted: Emitted { trap: None, sum: 0 },
             idle: 0,
             kept: no_lines(alloc, keeping),
@@ -150,27 +149,16 @@ impl<'t> Execution<'t> {
 
     /// Requests the next item of the stream, where the machine wants one.
     #[inline(always)]
-    fn feed<S: Source>(&mut self, alloc: Global, input: &mut S) -> Result<(), NoMemory>
+    pub(crate) fn feed<S: Source>(&mut self, alloc: Global, input: &mut S) -> Result<(), NoMemory>
         requires wide { self.old.stream.words ≡ (node_at self.old.machine.tree 0).ins }
-        requires open { self.old.close ≡ None → self.old.stream.closed ≡ None }
+        requires open { IsOpenOrEnded self.old.stream }
         ensures feeds { FeedsOn (change (S.observed input.old) (S.observed input.new))
+            self.old self.new result }
+        ensures fills { FillsOn (change (S.observed input.old) (S.observed input.new))
             self.old self.new result }
         ensures wants { OnErr result Refused }
     {
-        if self.close.is_some() {
-            return Ok(());
-        }
-        if !self.machine.wants_item() {
-            return Ok(());
-        }
-        self.close = feed(
-            alloc,
-            &mut self.machine,
-            &mut self.stream,
-            self.close,
-            input,
-        )?;
-        Ok(())
+        feed(alloc, &mut self.machine, &mut self.stream, input)
     }
 
     /// Makes the next pick and does what it leads to, and says whether one was left: where the
@@ -303,7 +291,7 @@ impl<'t> Execution<'t> {
     pub(crate) fn into_ran(self, alloc: Global, named: &Tree) -> Result<Ran, NoMemory>
         requires fits { self.earlier + self.machine.emitted < 2 ^ 64 }
         requires ended { ready_list self.machine ≡ [] → IsNone self.emitted.trap
-            → IsSome self.close }
+            → IsSome (ending_of self.stream) }
         ensures finish { IfGiven result (λ ran. IsFinish named.now self.entry ran.finish) }
         ensures stats { IfOk result (λ ran. ran.stats ≡ stats_at self.entry) }
         ensures lines { IfOk result (λ ran. ran.lines ≡ self.entry.kept) }
@@ -323,7 +311,7 @@ impl<'t> Execution<'t> {
     fn finish(&self, alloc: Global, named: &Tree) -> Result<RunEnd, NoMemory>
         requires fits { self.now.earlier + self.now.machine.emitted < 2 ^ 64 }
         requires ended { ready_list self.now.machine ≡ [] → IsNone self.now.emitted.trap
-            → IsSome self.now.close }
+            → IsSome (ending_of self.now.stream) }
         ensures { IfGiven result (IsFinish named.now self.now) }
     {
         if self.machine.ready() == 0 {
@@ -332,7 +320,7 @@ impl<'t> Execution<'t> {
                 named,
                 self.emitted.trap,
                 self.earlier + self.machine.emitted(),
-                self.close,
+                self.stream.ending(),
             );
         }
         Ok(RunEnd::Stopped {

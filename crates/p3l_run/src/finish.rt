@@ -13,7 +13,7 @@ use p3l_stream::Ending;
 use std::alloc::Global;
 
 /// The name of module `number`, and an empty one where there is no such module.
-fn name_of(alloc: Global, tree: &Tree, number: u32) -> Result<Name, NoMemory>
+pub fn name_of(alloc: Global, tree: &Tree, number: u32) -> Result<Name, NoMemory>
     ensures { IfGiven result (λ name. name ≡ module_name tree.now number) }
 {
     match tree.modules.as_slice().get(number as usize) {

@@ -42,13 +42,7 @@ impl<'t> Execution<'t> {
             self.old self.new timer.old timer.new result }
         ensures wants { OnErr result Refused }
     {
-        self.close = feed(
-            alloc,
-            &mut self.machine,
-            &mut self.stream,
-            self.close,
-            input,
-        )?;
+        feed(alloc, &mut self.machine, &mut self.stream, input)?;
         timer.offered(&self.machine);
         Ok(())
     }

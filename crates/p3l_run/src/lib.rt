@@ -9,7 +9,7 @@ pub mod end;
 mod execution;
 pub mod fault;
 pub mod feed;
-mod finish;
+pub mod finish;
 pub mod in_time;
 pub mod keeping;
 pub mod laws;

@@ -62,5 +62,5 @@ pub fn retrace<U: Units, S: Source>(
     if !is_counted(traced) {
         return Ok(Retraced::Differs(number + 1));
     }
-    Ok(Retraced::Agreed(comparison.close))
+    Ok(Retraced::Agreed(comparison.stream.ending()))
 }

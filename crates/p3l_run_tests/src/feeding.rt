@@ -34,7 +34,8 @@ fn fed_within(
     requires { machine.old.tree ≡ one_node }
 {
     let mut lines = Lines::new(alloc, 1, 4)?;
-    feed(alloc, machine, &mut lines, None, source)
+    feed(alloc, machine, &mut lines, source)?;
+    Ok(lines.ending())
 }
 
 /// The same of the machine of the tree of one node.

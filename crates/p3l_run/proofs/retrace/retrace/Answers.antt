@@ -44,4 +44,4 @@ returns-then-not-is_counted-clause-does g c =
 
 pub returns-clause-does : goal.returns-clause-does
 returns-clause-does g c =
-    comparison.lines_agree _ _ _ c.args.traced.now c.as_slice-line-items.result.now c.as_slice-line-items.ensures c.loop-line.line-index c.loop-line.comparison c.loop-line-test.false c.loop-line.invariant.walks (c.is_counted.ensures.0 c.if-not-is_counted.false)
+    rw c.ending.ensures (comparison.lines_agree _ _ _ c.args.traced.now c.as_slice-line-items.result.now c.as_slice-line-items.ensures c.loop-line.line-index c.loop-line.comparison c.loop-line-test.false c.loop-line.invariant.walks (c.is_counted.ensures.0 c.if-not-is_counted.false))

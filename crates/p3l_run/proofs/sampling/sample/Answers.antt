@@ -35,7 +35,7 @@ returns-in-Err-clause-sampled g c =
     let is : Ok (answered c.in_ok-answer.answer) ≡ Ok (Err c.in-Err.ending) = ap (λ a. Ok a) (sym c.into_item.ensures ∙ c.in-Err.is) in
     let Given : List (List ℤ) → Option (Result Ending NoMemory) → Type 0 = λ items closed. Gives width (change (g.S.Source.observed c.args.input.now) (g.S.Source.observed c.next.new.source)) c.next.new.self items closed in
     let more : Given (so_far.items ++ []) (Some (Ok c.in-Err.ending)) =
-    gives_so width c.loop-before.lines c.next.new.self (change (g.S.Source.observed c.loop-before.input) (g.S.Source.observed c.next.new.source)) None refl (Ok (answered c.in_ok-answer.answer))
+    gives_so width c.loop-before.lines c.next.new.self (change (g.S.Source.observed c.loop-before.input) (g.S.Source.observed c.next.new.source)) (Ok (answered c.in_ok-answer.answer))
     (λ bytes items given answers. c.a_stream_gives_its_items.ensures.answers width c.loop-before.lines c.next.new.self _ bytes items (Ok (answered c.in_ok-answer.answer)) given s_open (e.closed s_open) answers)
     (e.answers s_open) (e.cause s_open) (e.closed s_open) e.items (Ok (Err c.in-Err.ending)) is _ so_far.items so_far.gives in
     record {
@@ -54,7 +54,7 @@ returns-in-Trapped-clause-sampled g c =
     let is : Ok (answered c.in_ok-answer.answer) ≡ Ok (Ok c.in-Ok.words) = ap (λ a. Ok a) (sym c.into_item.ensures ∙ c.in-Ok.is) in
     let Given : List (List ℤ) → Option (Result Ending NoMemory) → Type 0 = λ items closed. Gives width (change (g.S.Source.observed c.args.input.now) (g.S.Source.observed c.next.new.source)) c.next.new.self items closed in
     let more : Given (so_far.items ++ c.in-Ok.words ∷ []) None =
-    gives_so width c.loop-before.lines c.next.new.self (change (g.S.Source.observed c.loop-before.input) (g.S.Source.observed c.next.new.source)) None refl (Ok (answered c.in_ok-answer.answer))
+    gives_so width c.loop-before.lines c.next.new.self (change (g.S.Source.observed c.loop-before.input) (g.S.Source.observed c.next.new.source)) (Ok (answered c.in_ok-answer.answer))
     (λ bytes items given answers. c.a_stream_gives_its_items.ensures.answers width c.loop-before.lines c.next.new.self _ bytes items (Ok (answered c.in_ok-answer.answer)) given s_open (e.closed s_open) answers)
     (e.answers s_open) (e.cause s_open) (e.closed s_open) e.items (Ok (Ok c.in-Ok.words)) is _ so_far.items so_far.gives in
     record {
@@ -78,7 +78,7 @@ loop-before-preserved g c =
     let is : Ok (answered c.in_ok-answer.answer) ≡ Ok (Ok c.in-Ok.words) = ap (λ a. Ok a) (sym c.into_item.ensures ∙ c.in-Ok.is) in
     let Given : List (List ℤ) → Option (Result Ending NoMemory) → Type 0 = λ items closed. Gives width (change (g.S.Source.observed c.args.input.now) (g.S.Source.observed c.next.new.source)) c.next.new.self items closed in
     let more : Given (so_far.items ++ c.in-Ok.words ∷ []) None =
-    gives_so width c.loop-before.lines c.next.new.self (change (g.S.Source.observed c.loop-before.input) (g.S.Source.observed c.next.new.source)) None refl (Ok (answered c.in_ok-answer.answer))
+    gives_so width c.loop-before.lines c.next.new.self (change (g.S.Source.observed c.loop-before.input) (g.S.Source.observed c.next.new.source)) (Ok (answered c.in_ok-answer.answer))
     (λ bytes items given answers. c.a_stream_gives_its_items.ensures.answers width c.loop-before.lines c.next.new.self _ bytes items (Ok (answered c.in_ok-answer.answer)) given s_open (e.closed s_open) answers)
     (e.answers s_open) (e.cause s_open) (e.closed s_open) e.items (Ok (Ok c.in-Ok.words)) is _ so_far.items so_far.gives in
     record {

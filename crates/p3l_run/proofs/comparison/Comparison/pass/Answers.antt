@@ -1,12 +1,13 @@
 use Rattle.std.proofs.Common.{◌∙◌, sym}
 use Rattle.p3l_run.proofs.ComparisonSteps as comparison
+use Rattle.p3l_run.proofs.FeedSteps.{open_or_ended}
 use Rattle.p3l_run.proofs.comparison.Comparison.pass.Goals as goal
 
 pub feed-requires-clause-wide : goal.feed-requires-clause-wide
 feed-requires-clause-wide g c = let way = c.requires.network in comparison.wide way.network way.first (g.S.Source.observed c.args.input.now) way.walked c.args.self.now way.walks.passed
 
 pub feed-requires-clause-open : goal.feed-requires-clause-open
-feed-requires-clause-open g c = let way = c.requires.network in comparison.unended way.network way.first (g.S.Source.observed c.args.input.now) way.walked c.args.self.now way.walks.passed
+feed-requires-clause-open g c = open_or_ended c.requires.network.walks.passed.gives
 
 pub returns-then-not-agrees : goal.returns-then-not-agrees
 returns-then-not-agrees g c =

@@ -2,14 +2,15 @@ use Rattle.std.proofs.Common.{◌<◌, ◌∙◌, subst, sym}
 use Rattle.std.proofs.lemmas.Result.{err_from_is_err_and}
 use Rattle.p3l_run.specs.Execution.{left_at}
 use Rattle.p3l_run.specs.Streams.{streams}
-use Rattle.p3l_run.proofs.ExecutionSteps.{in_range, made, none_made, unended, wide}
+use Rattle.p3l_run.proofs.ExecutionSteps.{in_range, made, none_made, wide}
+use Rattle.p3l_run.proofs.FeedSteps.{open_or_ended}
 use Rattle.p3l_run.proofs.execution.Execution.run_out.Goals as goal
 
 pub feed-requires-clause-wide : goal.feed-requires-clause-wide
 feed-requires-clause-wide g c = let way = c.requires.job in wide way.job (streams (g.S.Source.observed c.picks.input) (g.K.Sink.observed c.picks.out)) c.picks.self (c.picks.invariant way.job way.leaf_is way.executes)
 
 pub feed-requires-clause-open : goal.feed-requires-clause-open
-feed-requires-clause-open g c = let way = c.requires.job in unended way.job (streams (g.S.Source.observed c.picks.input) (g.K.Sink.observed c.picks.out)) c.picks.self (c.picks.invariant way.job way.leaf_is way.executes)
+feed-requires-clause-open g c = let way = c.requires.job in open_or_ended (c.picks.invariant way.job way.leaf_is way.executes).gives
 
 pub returns-in_err-feed-clause-runs : goal.returns-in_err-feed-clause-runs
 returns-in_err-feed-clause-runs g c =
