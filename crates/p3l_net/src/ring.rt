@@ -24,19 +24,13 @@ pub(crate) fn prepend<T>(ring: &mut HeapCircularBuffer<T>, item: T)
     ring.try_push_front(item).unwrap();
 }
 
-/// Takes the first item of a ring that has one. An only item is taken as the last one, which moves
-/// nothing but the count.
+/// Takes the first item of a ring that has one.
 pub(crate) fn take<T>(ring: &mut HeapCircularBuffer<T>) -> T
     requires { 0 < length ring.old.items }
     ensures items { ring.old.items ≡ result ∷ ring.new.items }
     ensures capacity { ring.new.capacity ≡ ring.old.capacity }
 {
-    let taken = if ring.len() == 1 {
-        ring.pop_back()
-    } else {
-        ring.pop_front()
-    };
-    let Some(item) = taken else {
+    let Some(item) = ring.pop_front() else {
         unreachable!();
     };
     item
