@@ -2,7 +2,7 @@
 use Rattle.std.proofs.Common.{◌≡◌, Result, Ok, Err, IfOk, inl, inr, refl, true}
 use Rattle.p3l_base.specs.Memory.{IfGiven, IfGivenOr}
 
--- where the call gave something, more follows
+-- more follows where the call gave something
 pub given_so : {A E : Type 0} {P Q : A → Type 0} (r : Result A E) → IfGiven r P → ((x : A) → P x → Q x) → IfGiven r Q
 given_so (Ok x) p f = f x p
 given_so (Err e) refused f = refused

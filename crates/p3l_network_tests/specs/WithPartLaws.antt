@@ -39,6 +39,6 @@ subtracts_give = at_node
     at_node (suc zero) words low form long = two_words words long
     at_node (suc (suc node)) words low form long = absurd (omega (arith, low))
 
--- what traps always gives no value of another length
+-- a body that always traps gives no value of another length
 pub refusing_gives : GivesOuts three_reduce refusing
 refusing_gives node words inside form fits = tt

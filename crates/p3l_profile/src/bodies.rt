@@ -4,7 +4,7 @@ ghost use Rattle.std.specs.Prelude.{◌≡◌, ◌<◌, length, IfOk, Some};
 ghost use Rattle.p3l_base.specs.Memory.{IfGiven};
 ghost use Rattle.p3l_skel.specs.declared.tree.Form.TheVariants as forms;
 ghost use Rattle.p3l_skel.specs.Tree.{node_at};
-ghost use Rattle.p3l_units.specs.Table.{IsTable, code_of, leaf};
+ghost use Rattle.p3l_units.specs.Table.{ArePlaced, code_of, leaf};
 ghost use Rattle.p3l_profile.specs.Notes.{steps_at};
 
 use p3l_base::{List, NoMemory, Words};
@@ -23,20 +23,20 @@ pub struct Bodies<'t> {
 }
 
 impl<'t> Model for Bodies<'t> {
-    ghost use Rattle.p3l_units.specs.Table.{Served, IsTable};
+    ghost use Rattle.p3l_units.specs.Table.{ArePlaced, Served};
 
     ghost Value = { Served };
 
     ghost view = { λ it. record { tree = it.tree.now; codes = it.codes.now } };
 
-    ghost invariant = { λ it. IsTable it.tree.now it.codes.now it.places.now };
+    ghost invariant = { λ it. ArePlaced it.tree.now it.codes.now it.places.now };
 }
 
 impl<'t> Bodies<'t> {
     /// The bodies of a tree, by the codes of its `seq` modules and the places of the modules among
     /// them.
     pub fn new(tree: &'t Tree, codes: &'t List<SafeCode>, places: &'t List<u32>) -> Bodies<'t>
-        requires { IsTable tree.now codes.now places.now }
+        requires { ArePlaced tree.now codes.now places.now }
         ensures { result ≡ record { tree = tree.now; codes = codes.now } }
     {
         Bodies {

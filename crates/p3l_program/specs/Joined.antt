@@ -1,5 +1,5 @@
 -- Runs on blocks of a stream, whose texts are put together.
-use Rattle.std.specs.Prelude.{◌≡◌, ◌↔◌, ℕ, ℤ, List, [], ◌∷◌, ◌++◌}
+use Rattle.std.specs.Prelude.{◌≡◌, ◌↔◌, ℕ, List, [], ◌∷◌, ◌++◌}
 use Rattle.std.specs.List.{AllByRecursion}
 use Rattle.p3l_run.specs.Network.{Network, meaning_of, width_of}
 use Rattle.p3l_run.specs.Start.{fresh}

@@ -1,12 +1,10 @@
 // The command `profile`: the cost file of what a program does on the items of the input.
 
 ghost use Rattle.std.specs.Prelude.{◌≡◌, Bool};
-ghost use Rattle.p3l_base.specs.Memory.{IfGiven};
 ghost use Rattle.std.specs.List.{All};
 ghost use Rattle.p3l_io.specs.Change.{HasSameContent, change};
 ghost use Rattle.p3l_skel.specs.Lawful.{IsLawfulTree};
 ghost use Rattle.p3l_units.specs.Table.{HasCode};
-ghost use Rattle.p3l_run.specs.Run.{module_name};
 ghost use Rattle.p3l_run.specs.declared.sampling.Sampled.TheVariants as sampled;
 ghost use Rattle.p3l_program.specs.Profile.{IsClosedProfile, IsProfileExpected, IsProfileOf, coded};
 ghost use Rattle.p3l_program.specs.World.{world};
@@ -14,26 +12,17 @@ ghost use Rattle.p3l_program.specs.Wants.{Wants};
 
 use crate::plan::{Accepted, load_program};
 use crate::text::write_text;
-use p3l_base::{List, Name, NoMemory};
+use p3l_base::{List, Name};
 use p3l_code::SafeCode;
 use p3l_io::{Files, Sink, Source};
 use p3l_profile::Profile;
 use p3l_profile::laws::a_profile_has_the_greatest;
 use p3l_report::{Finish, Verdict};
+use p3l_run::finish::name_of;
 use p3l_run::{RunEnd, Sampled, sample};
 use p3l_skel::Tree;
 use p3l_stream::Ending;
 use std::alloc::Global;
-
-/// The name of the module of a number, and none where no module has it.
-fn name_of(alloc: Global, tree: &Tree, number: u32) -> Result<Name, NoMemory>
-    ensures { IfGiven result (λ name. name ≡ module_name tree.now number) }
-{
-    match tree.modules.as_slice().get(number as usize) {
-        Some(found) => Name::from_text(alloc, found.name.as_str()),
-        None => Name::from_text(alloc, ""),
-    }
-}
 
 /// Writes the cost file of a profile whose input ended so, if this is its end.
 fn close<K: Sink>(
